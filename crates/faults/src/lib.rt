@@ -65,6 +65,10 @@ impl Fault {
             Fault::StepTableTooShort => (17, 6, 0),
             Fault::NoJourney => (18, 6, 0),
         };
-        Report { number, layer, place }
+        Report {
+            number,
+            layer,
+            place,
+        }
     }
 }
