@@ -40,3 +40,16 @@ judged-kept (Some f) x h = grind arith
 pub judged-broken : {T : Type 0} (o : Option Fault) (x : T) (f : Fault) → o ≡ Some f → judgedBy o x ≡ Err f
 judged-broken None x f h = grind arith
 judged-broken (Some g) x f h = cc
+
+pub broken-from-err : {T : Type 0} (o : Option Fault) (x : T) (f : Fault) → judgedBy o x ≡ Err f → o ≡ Some f
+broken-from-err None x f h = grind arith
+broken-from-err (Some g) x f h = cc
+
+pub kept-append : (rs ss : List Rule) → Kept (rs ++ ss) → Kept rs × Kept ss
+kept-append [] ss h = (refl, h)
+kept-append ((true, f) ∷ rs) ss h = kept-append rs ss h
+kept-append ((false, f) ∷ rs) ss h = grind arith
+
+pub value-from-ok : {T : Type 0} (o : Option Fault) (x y : T) → judgedBy o x ≡ Ok y → x ≡ y
+value-from-ok None x y h = cc
+value-from-ok (Some f) x y h = grind arith

@@ -43,7 +43,7 @@ reading-layout p (Ride a b t d) h =
     let j = kept-parts (leb 1 d && leb d 1440) _ _ (k .1) in
     let l : leb (t + d) 999999 ≡ true = kept-parts (leb (t + d) 999999) _ _ (j .1) .0 in
     let u : t + d ≤ 999999 = leb-true (t + d) 999999 l in
-    let m : d ≤ 1440 = leb-true d 1440 (and-parts _ _ (j .0) .1) in
+    let m : d ≤ 1440 = leb-true d 1440 (and-parts (leb 1 d) (leb d 1440) (j .0) .1) in
     let w = word-bytes4 t (omega arith) in
     let v = half-bytes2 d (omega arith) in
     rw (w, v, k .0, j .0, l)

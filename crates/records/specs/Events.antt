@@ -5,10 +5,15 @@
 --     Within e         e breaks none of them, and its stops are stops
 --     inOrder d e      e may stand right after d: times do not fall, and within a minute no opening
 --                      follows a ride
-use Prim.Native.Nat.{ℕ, _+_, _<_}
+--     Listed es        a timetable's list of events: at most 1,024, each within the limits, in order
+use Prim.Native.Nat.{ℕ, _+_, _<_, _≤_}
+use lib.ListN.{length}
 use lib.Dec.{eqb, leb, ltb}
-use mathlib.Core.Bool.{Bool, not, _&&_}
+use mathlib.Core.Bool.{Bool, true, not, _&&_}
+use mathlib.Core.Path.{_≡_}
 use mathlib.Core.List.{List, [], _∷_}
+use Rattle.std.specs.shelf.Lists.{All}
+use Rattle.std.specs.shelf.Sorted.{Neighbours}
 use Rattle.faults.specs.declared.Fault.the-variants.{EqualStops, DurationOutOfRange, TimeOutOfRange}
 use Rattle.faults.specs.Rules.{Rule, Kept}
 use Rattle.records.specs.declared.event.Event.{Event}
@@ -37,3 +42,8 @@ abbrev pub inOrder : Event → Event → Bool
 inOrder (Opening s m) e = leb m (timeOf e)
 inOrder (Ride from to departure duration) (Opening s m) = ltb departure m
 inOrder (Ride from to departure duration) (Ride f t m d) = leb departure m
+
+pub record Listed (es : List Event) : Type 0 where
+  pub few : length es ≤ 1024
+  pub within : All Within es
+  pub ordered : Neighbours (λ d e. inOrder d e ≡ true) es (length es)
