@@ -76,6 +76,7 @@ impl<'a> Load<'a> {
         ensures same { λ _. ⌜ now (self .exit .0) ≡ now (self .entry .memory) ⌝ }
         ensures filled { λ r. ⌜ ((o : List ℕ) (rs : List (List ℕ)) → Filling o rs (now (self .entry .memory)) (self .entry .held) → Filled o rs (now (self .exit .0)) r) ⌝ }
     {
-        self.held
+        let Load { memory: _, held } = self;
+        held
     }
 }

@@ -3,6 +3,8 @@ mod event;
 mod record;
 
 pub use event::Event;
+pub use event::EventDebug;
+pub use event::EventPartialEq;
 pub use event::Stop;
 pub use record::fields;
 pub use record::read;
