@@ -1,13 +1,14 @@
 -- The records of a block, one after another.
 use Prim.Native.Nat.{ℕ, zero, suc, _+_, _-_, _*_, _%_, _<_, _≤_}
-use lib.Dec.{eqb, leb}
+use lib.Dec.{eqb, leb, ltb}
 use lib.ListN.{length, getD, drop}
-use mathlib.Core.Bool.{true, false, _||_}
+use mathlib.Core.Bool.{true, false, cond, _||_}
+use mathlib.Core.Logic.{⊎-elim}
 use mathlib.Core.List.{List, [], _∷_, _++_, map}
 use mathlib.Core.Path.{_≡_, sym, ap, subst, _∙_}
 use native.Mathlib.Omega.{arith}
 use Rattle.std.proofs.shelf.Counted.{length-map-counting, getD-map-counting}
-use Rattle.std.proofs.shelf.Maps.{nth-getD}
+use Rattle.std.proofs.shelf.Maps.{nth-getD, nth-past}
 use Rattle.std.specs.Iters.{counting}
 use Rattle.std.specs.Joined.{joined}
 use Rattle.std.specs.shelf.Maps.{nth}
@@ -16,7 +17,7 @@ use Rattle.faults.specs.Rules.{Rule, Kept, firstBroken}
 use Rattle.faults.specs.declared.Fault.{Fault}
 use Rattle.std.proofs.shelf.Elements.{all-from-getD}
 use Rattle.std.proofs.shelf.Lists.{getD-take, getD-drop}
-use Rattle.std.proofs.shelf.Tests.{ne-eqb, leb-true}
+use Rattle.std.proofs.shelf.Tests.{cases-lt, le-ltb, leb-true, lt-ltb, ne-eqb}
 use Rattle.faults.proofs.Rules.{firstBroken-kept, firstBroken-broken, kept-append, kept-parts}
 use Rattle.records.proofs.Limits.{limits-anywhere, stops-eventIn}
 use Rattle.records.specs.declared.event.Event.{Event}
@@ -31,10 +32,16 @@ module _ (bs : List ℕ) where
   pub length-eventsOf : length (eventsOf bs) ≡ count bs
   length-eventsOf = length-map-counting (eventAt bs) 0 (count bs)
 
-  pub nth-eventsOf : (i : ℕ) → i < count bs → nth (eventsOf bs) i ≡ Some (eventAt bs i)
-  nth-eventsOf i h =
-      nth-getD (eventsOf bs) i (eventAt bs 0) (rw length-eventsOf h)
-      ∙ ap Some (getD-map-counting (eventAt bs) 0 (count bs) i i (eventAt bs 0) h (omega arith))
+  pub nth-eventsOf : (i : ℕ) → cond (ltb i (count bs)) (Some (eventAt bs i)) None ≡ nth (eventsOf bs) i
+  nth-eventsOf i =
+      ⊎-elim
+      (λ h.
+      rw (lt-ltb i (count bs) h)
+      (sym
+      (nth-getD (eventsOf bs) i (eventAt bs 0) (rw length-eventsOf h)
+      ∙ ap Some (getD-map-counting (eventAt bs) 0 (count bs) i i (eventAt bs 0) h (omega arith)))))
+      (λ h. rw (le-ltb i (count bs) h) (sym (nth-past (eventsOf bs) i (rw length-eventsOf h))))
+      (cases-lt i (count bs))
 
   -- what the records from i on are still to be tested for
   abbrev pub rulesFrom : ℕ → List Rule

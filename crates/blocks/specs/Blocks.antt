@@ -6,8 +6,9 @@
 --                      by itself, then that it is the first or in order after record i - 1
 --     rulesAt bs i     those of record i of bs
 --     recordsRules bs  those of each record of bs in turn
---     blockRules bs    the rules that a block obeys, in the order in which they are tested: there are
---                      whole records only, at most 1,024, and each in turn obeys its rules
+--     sizeRules bs     there are whole records only, and at most 1,024
+--     blockRules bs    the rules that a block obeys, in the order in which they are tested: those of its
+--                      size, then those of its records
 --     eventsOf bs      the events of a block, in their order
 --     opening bs       what opening a block answers: its events, or the first broken rule's fault
 use Prim.Native.Nat.{ℕ, _+_, _-_, _*_, _/_, _%_}
@@ -43,11 +44,11 @@ rulesAt bs i = rulesAfter bs i (recordAt bs i)
 abbrev pub recordsRules : List ℕ → List Rule
 recordsRules bs = joined (rulesAt bs) (counting 0 (count bs))
 
+abbrev pub sizeRules : List ℕ → List Rule
+sizeRules bs = (eqb (length bs % 16) 0, PartialRecord (count bs)) ∷ (leb (count bs) 1024, TooManyRecords 1024) ∷ []
+
 abbrev pub blockRules : List ℕ → List Rule
-blockRules bs =
-    (eqb (length bs % 16) 0, PartialRecord (count bs))
-    ∷ (leb (count bs) 1024, TooManyRecords 1024)
-    ∷ recordsRules bs
+blockRules bs = sizeRules bs ++ recordsRules bs
 
 abbrev pub eventsOf : List ℕ → List Event
 eventsOf bs = map (eventAt bs) (counting 0 (count bs))

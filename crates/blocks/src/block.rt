@@ -1,13 +1,16 @@
 // A block: records with nothing else, opened over any bytes.
 ghost use Prim.Native.Nat.{_+_, _*_, _≤_};
 ghost use lib.ListN.{length};
+ghost use lib.Dec.{ltb};
+ghost use mathlib.Core.Bool.{cond};
 ghost use mathlib.Core.Path.{_≡_};
 ghost use Rattle.std.specs.Results.{mapped};
 ghost use Rattle.std.specs.Vec.{made};
+ghost use Rattle.std.specs.declared.option.Option.the-variants.{None, Some};
 ghost use Rattle.std.specs.shelf.Maps.{nth};
 ghost use Rattle.faults.specs.Rules.{judged};
 ghost use Rattle.records.specs.Events.{Listed};
-ghost use Rattle.blocks.specs.Blocks.{eventAt, eventsOf, opening, recordAt, recordsRules, rulesAfter};
+ghost use Rattle.blocks.specs.Blocks.{count, eventAt, opening, recordAt, recordsRules, rulesAfter, sizeRules};
 ghost use Rattle.blocks.specs.Views.{events};
 use faults::Fault;
 use records::Event;
@@ -49,11 +52,44 @@ pub(crate) fn check_after(before: &[u8], place: usize, row: &[u8; 16]) -> Result
     Ok(())
 }
 
+// How many whole records the bytes have.
+fn count_in(bytes: &[u8]) -> usize
+    ensures { λ r. ⌜ r ≡ count (now (bytes .entry)) ⌝ }
+{
+    bytes.len() / RECORD_BYTES
+}
+
+// Refuses bytes that are not whole records only, or too many.
+fn check_size(bytes: &[u8]) -> Result<(), Fault>
+    ensures { λ r. ⌜ r ≡ judged (sizeRules (now (bytes .entry))) tt ⌝ }
+{
+    let count = count_in(bytes);
+    if bytes.len() % RECORD_BYTES != 0 {
+        return Err(Fault::PartialRecord { place: count });
+    }
+    if count > MOST_RECORDS {
+        return Err(Fault::TooManyRecords {
+            place: MOST_RECORDS,
+        });
+    }
+    Ok(())
+}
+
+// The event that the record at a place gives, none at the end of the bytes and beyond.
+fn event_in(bytes: &[u8], place: usize) -> Option<Event>
+    ensures { λ r. ⌜ r ≡ cond (ltb place (count (now (bytes .entry)))) (Some (eventAt (now (bytes .entry)) place)) None ⌝ }
+{
+    if place >= count_in(bytes) {
+        return None;
+    }
+    Some(fields(&record_at(bytes, place)))
+}
+
 // Refuses with the first rule that a record breaks, record after record.
 fn check_each(bytes: &[u8]) -> Result<(), Fault>
     ensures { λ r. ⌜ r ≡ judged (recordsRules (now (bytes .entry))) tt ⌝ }
 {
-    for place in 0..bytes.len() / RECORD_BYTES {
+    for place in 0..count_in(bytes) {
         check_after(bytes, place, &record_at(bytes, place))?;
     }
     Ok(())
@@ -66,15 +102,7 @@ impl<'a> Block<'a> {
         ensures same { λ r. ⌜ made r (λ b. now (b .bytes) ≡ now (bytes .entry)) ⌝ }
         ensures listed { λ r. ⌜ made r (λ b. Listed (events b)) ⌝ }
     {
-        let count = bytes.len() / RECORD_BYTES;
-        if bytes.len() % RECORD_BYTES != 0 {
-            return Err(Fault::PartialRecord { place: count });
-        }
-        if count > MOST_RECORDS {
-            return Err(Fault::TooManyRecords {
-                place: MOST_RECORDS,
-            });
-        }
+        check_size(bytes)?;
         check_each(bytes)?;
         Ok(Block { bytes })
     }
@@ -83,16 +111,13 @@ impl<'a> Block<'a> {
     pub fn len(&self) -> usize
         ensures { λ r. ⌜ r ≡ length (events (now (self .entry))) ⌝ }
     {
-        self.bytes.len() / RECORD_BYTES
+        count_in(self.bytes)
     }
 
     // The event at a place, none at its end and beyond.
     pub fn event(&self, place: usize) -> Option<Event>
         ensures { λ r. ⌜ r ≡ nth (events (now (self .entry))) place ⌝ }
     {
-        if place >= self.len() {
-            return None;
-        }
-        Some(fields(&record_at(self.bytes, place)))
+        event_in(self.bytes, place)
     }
 }

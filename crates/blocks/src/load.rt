@@ -2,7 +2,7 @@
 ghost use Prim.Native.Nat.{ℕ, _+_, _*_};
 ghost use denote.Ref.{name};
 ghost use mathlib.Core.Bool.{cond};
-ghost use mathlib.Core.List.{List, [], _++_};
+ghost use mathlib.Core.List.{List, _++_};
 ghost use mathlib.Core.Path.{_≡_};
 ghost use Rattle.std.specs.Results.{isOk};
 ghost use Rattle.faults.specs.Rules.{judged};
@@ -50,7 +50,6 @@ impl<'a> Load<'a> {
     pub fn new(memory: &'a mut [u8]) -> Load<'a>
         ensures same { λ r. ⌜ now (r .memory) ≡ now (memory .entry) ⌝ }
         ensures held { λ r. ⌜ r .held ≡ 0 ⌝ }
-        ensures filling { λ r. ⌜ Filling (now (memory .entry)) [] (now (r .memory)) (r .held) ⌝ }
         ensures named { λ r. ⌜ name (r .memory) ≡ name (memory .entry) ⌝ }
     {
         Load { memory, held: 0 }
@@ -64,10 +63,17 @@ impl<'a> Load<'a> {
         ensures filling { λ r. ⌜ ((o : List ℕ) (rs : List (List ℕ)) → Filling o rs (now (now (self .entry) .memory)) (now (self .entry) .held) → Filling o (rs ++ accepted r (now (bytes .entry))) (now (now (self .exit) .memory)) (now (self .exit) .held)) ⌝ }
         ensures named { λ _. ⌜ name (now (self .exit) .memory) ≡ name (now (self .entry) .memory) ⌝ }
     {
-        let held = self.held;
-        append(self.memory, held, bytes)?;
-        self.held = held + 1;
+        let Load { memory, held } = self;
+        append(memory, *held, bytes)?;
+        *held += 1;
         Ok(())
+    }
+
+    // The number of records held.
+    pub fn len(&self) -> usize
+        ensures { λ r. ⌜ r ≡ now (self .entry) .held ⌝ }
+    {
+        self.held
     }
 
     // Ends the load and tells how many records it holds: the front of the memory is their block.
@@ -76,7 +82,6 @@ impl<'a> Load<'a> {
         ensures same { λ _. ⌜ now (self .exit .0) ≡ now (self .entry .memory) ⌝ }
         ensures filled { λ r. ⌜ ((o : List ℕ) (rs : List (List ℕ)) → Filling o rs (now (self .entry .memory)) (self .entry .held) → Filled o rs (now (self .exit .0)) r) ⌝ }
     {
-        let Load { memory: _, held } = self;
-        held
+        self.len()
     }
 }

@@ -4,19 +4,68 @@ use blocks::Load;
 use faults::Fault;
 use faults::Report;
 use records::Event;
+use records::EventPartialEq;
 use records::read;
 use records::write;
-use records::EventPartialEq;
 
 // A ride 1-2 100+20, an opening at 2, minute 125, and a ride 2-3 125+30.
 const GOOD: [u8; 48] = [
-    2, 1, 2, 0, 0, 0, 0, 100, 0, 20, 0, 0, 0, 0, 0, 0, //
-    1, 2, 0, 0, 0, 0, 0, 125, 0, 0, 0, 0, 0, 0, 0, 0, //
-    2, 2, 3, 0, 0, 0, 0, 125, 0, 30, 0, 0, 0, 0, 0, 0, //
+    2,
+    1,
+    2,
+    0,
+    0,
+    0,
+    0,
+    100,
+    0,
+    20,
+    0,
+    0,
+    0,
+    0,
+    0,
+    0, //
+    1,
+    2,
+    0,
+    0,
+    0,
+    0,
+    0,
+    125,
+    0,
+    0,
+    0,
+    0,
+    0,
+    0,
+    0,
+    0, //
+    2,
+    2,
+    3,
+    0,
+    0,
+    0,
+    0,
+    125,
+    0,
+    30,
+    0,
+    0,
+    0,
+    0,
+    0,
+    0, //
 ];
 
 fn told(fault: Fault) -> (u8, u8, usize) {
-    let Report { number, layer, place } = fault.report();
+    let Report {
+        number,
+        layer,
+        place,
+    } = fault.report();
     (number, layer, place)
 }
 
@@ -157,8 +206,20 @@ mod tests {
             (ride(0, 1, 0, 0), (6, 2, 0)),
             (ride(7, 7, 0, 0), (5, 2, 0)),
             (ride(0, 1, 999_999, 0), (6, 2, 0)),
-            (Event::Opening { stop: 255, minute: 999_999 }, (0, 0, 0)),
-            (Event::Opening { stop: 0, minute: 1_000_000 }, (8, 2, 0)),
+            (
+                Event::Opening {
+                    stop: 255,
+                    minute: 999_999,
+                },
+                (0, 0, 0),
+            ),
+            (
+                Event::Opening {
+                    stop: 0,
+                    minute: 1_000_000,
+                },
+                (8, 2, 0),
+            ),
         ];
         for (event, meets) in table {
             check_eq(rewritten(event), meets)?;

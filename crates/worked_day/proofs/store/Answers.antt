@@ -5,14 +5,15 @@ use mathlib.Core.List.{List, map, [], _∷_, _++_}
 use mathlib.Core.Path.{_≡_, refl, sym, ap, subst, _∙_}
 use Rattle.std.proofs.shelf.Lists.{map-more, take-all}
 use Rattle.faults.proofs.Rules.{value-from-ok}
-use Rattle.blocks.specs.Loads.{Filled, Filling, accepted}
+use Rattle.blocks.specs.Loads.{Filled, Filling, accepted, begun}
 use Rattle.records.specs.declared.event.Event.the-variants.{Opening}
 use Rattle.records.specs.Layout.{layout}
 use Rattle.worked_day.proofs.store.Needs as need
 
 pub loop-event-holds : need.loop-event-holds
 loop-event-holds c =
-    (refl, subst (λ m. Filling m [] (c .new-load .result .memory .now) (c .new-load .result .held)) (sym (c .new-load .ensures .same)) (c .new-load .ensures .filling))
+    let m = c .new-load .result .memory .now in
+    (refl, subst (λ n. Filling m [] m n) (sym (c .new-load .ensures .held)) begun)
 
 pub loop-event-again : need.loop-event-again
 loop-event-again c =

@@ -1,0 +1,4 @@
+pub mod Chains
+pub mod Scores
+pub mod Spans
+pub mod Temporal

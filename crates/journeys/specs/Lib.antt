@@ -1,0 +1,4 @@
+pub mod Best
+pub mod Formulas
+pub mod Journeys
+pub mod Walks
