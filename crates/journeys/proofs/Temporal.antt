@@ -26,7 +26,7 @@ same-edge : (e : Event) → SameEdge e
 same-edge (Opening s m) = record { tails = refl; heads = refl; starts = refl; passed = omega arith }
 same-edge (Ride a b t d) = record { tails = refl; heads = refl; starts = refl; passed = refl }
 
-one-kind : (e : Event) → oneIfOpening e + oneIfRide e ≡ 1
+pub one-kind : (e : Event) → oneIfOpening e + oneIfRide e ≡ 1
 one-kind (Opening s m) = refl
 one-kind (Ride a b t d) = refl
 

@@ -1,4 +1,5 @@
 pub mod Best
 pub mod Formulas
 pub mod Journeys
+pub mod Verdicts
 pub mod Walks
