@@ -1,0 +1,4 @@
+pub mod Heaps
+pub mod Parts
+pub mod Runs
+pub mod Sorts

@@ -1,0 +1,4 @@
+pub mod Order
+pub mod Queue
+pub mod Runs
+pub mod Steps
