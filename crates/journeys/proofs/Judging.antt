@@ -58,10 +58,10 @@ module _ (es : List Event) (p : ℕ → Bool) where
       record { known = (n .0, c .known); rising = (b .0, c .rising); linked = (b .1, c .linked) }
 
   chain-parts : (j : ℕ) (ks : List ℕ) → Chain es p (j ∷ ks) → Next es p (j ∷ ks) × Chain es p ks
-  chain-parts j ks c =
-      ( (c .known .0, before-both j ks (c .rising .0) (c .linked .0))
-      , record { known = c .known .1; rising = c .rising .1; linked = c .linked .1 }
-      )
+  chain-parts j ks c = (
+    (c .known .0, before-both j ks (c .rising .0) (c .linked .0)),
+    record { known = c .known .1; rising = c .rising .1; linked = c .linked .1 },
+  )
 
   pub no-chain : Chain es p []
   no-chain = record { known = tt; rising = tt; linked = tt }
@@ -143,17 +143,17 @@ module _ (es : List Event) (p : ℕ → Bool) (q : Query) (js : List ℕ) (d e :
       let a = here-asked b in
       record {
         journey =
-          record {
-            known = c .known;
-            rising = c .rising;
-            linked = c .linked;
-            ridden = a .0;
-            called = a .1;
-            departs = a .2;
-            arrives = a .3
-          };
+            record {
+              known = c .known;
+              rising = c .rising;
+              linked = c .linked;
+              ridden = a .0;
+              called = a .1;
+              departs = a .2;
+              arrives = a .3;
+            };
         opens = a .4;
-        closes = a .5
+        closes = a .5;
       }
 
   pub riding-below-close : Chain es p js → Asked q d e t → t .riding ≤ q .close

@@ -9,7 +9,7 @@ use Rattle.std.proofs.shelf.Signed.{ints}
 use Rattle.records.specs.declared.event.Event.{Event}
 use Rattle.records.specs.declared.event.Event.the-variants.{Opening, Ride}
 use Rattle.records.specs.Events.{Listed}
-use Rattle.measures.specs.declared.six.Trip.{Trip}
+use Rattle.measures.specs.declared.by_trip.Trip.{Trip}
 use Rattle.measures.specs.Measures.{Ops, Score}
 use Rattle.measures.specs.Six.{capped, earliest, fastest, fewestRides, latest, leastRiding, leastWaiting}
 use Rattle.journeys.specs.declared.query.Query.{Query}
@@ -83,13 +83,13 @@ module _ (es : List Event) (p : ℕ → Bool) (q : Query) (js : List ℕ) (liste
   waited = omega (arith, ints, span .0)
 
 pub six-plain : Six-plain
-six-plain =
-    ( (λ es p q js listed h. ap (λ l. earliest .settle l (ending es js)) (along-still earliest (λ l d. refl) es (beginning es js) js))
-    , (λ es p q js listed h. ap (λ l. latest .settle l (ending es js)) (along-still latest (λ l d. refl) es (beginning es js) js))
-    , (λ es p q js listed h. ap (λ l. fastest .settle l (ending es js)) (label-fastest es p q js listed h))
-    , (λ es p q js listed h. ap (λ l. leastRiding .settle l (ending es js)) (label-riding es p q js listed h))
-    , (λ es p q js listed h. ap (λ l. fewestRides .settle l (ending es js)) (label-rides es p q js listed h))
-    , (λ es p q js listed h.
-        ap (λ l. leastWaiting .settle l (ending es js)) (label-waiting es p q js listed h)
-        ∙ ap (λ z. (z, pos (ending es js))) (waited es p q js listed h))
-    )
+six-plain = (
+  (λ es p q js listed h. ap (λ l. earliest .settle l (ending es js)) (along-still earliest (λ l d. refl) es (beginning es js) js)),
+  (λ es p q js listed h. ap (λ l. latest .settle l (ending es js)) (along-still latest (λ l d. refl) es (beginning es js) js)),
+  (λ es p q js listed h. ap (λ l. fastest .settle l (ending es js)) (label-fastest es p q js listed h)),
+  (λ es p q js listed h. ap (λ l. leastRiding .settle l (ending es js)) (label-riding es p q js listed h)),
+  (λ es p q js listed h. ap (λ l. fewestRides .settle l (ending es js)) (label-rides es p q js listed h)),
+  (λ es p q js listed h.
+      ap (λ l. leastWaiting .settle l (ending es js)) (label-waiting es p q js listed h)
+      ∙ ap (λ z. (z, pos (ending es js))) (waited es p q js listed h)),
+)

@@ -64,8 +64,8 @@ module _ (es : List Event) (p : ℕ → Bool) (listed : Listed es) where
   -- a journey's sums are within a timetable's minutes
   pub journey-span : (q : Query) (js : List ℕ) → Journey es p q js → (beginning es js + riding es js ≤ ending es js) × (ending es js ≤ 999999) × (rides es js ≤ riding es js)
   journey-span q [] h = absurd (omega (arith, h .ridden))
-  journey-span q (j ∷ js) h =
-      ( omega (arith, ending-sum es j js (h .linked))
-      , within-ends (numbered es (finalFrom j js)) (known-within (finalFrom j js) (known-final j js (h .known)))
-      , rides-riding (j ∷ js) (h .known)
-      )
+  journey-span q (j ∷ js) h = (
+    omega (arith, ending-sum es j js (h .linked)),
+    within-ends (numbered es (finalFrom j js)) (known-within (finalFrom j js) (known-final j js (h .known))),
+    rides-riding (j ∷ js) (h .known),
+  )

@@ -93,7 +93,7 @@ module _ (es : List Event) (p : ℕ → Bool) (q : Query) (js : List ℕ) (liste
         from = b .tails ∙ j .departs;
         to = e .heads ∙ j .arrives;
         opens = omega (arith, b .starts, f .opens);
-        closes = omega (arith, e .passed, f .closes)
+        closes = omega (arith, e .passed, f .closes);
       }
 
   -- a ride that is left before another begins has the lower number
@@ -109,19 +109,19 @@ module _ (es : List Event) (p : ℕ → Bool) (q : Query) (js : List ℕ) (liste
       let e = same-edge (numbered es (final js)) in
       record {
         journey =
-          record {
-            known = w .known;
-            rising =
-              map-chained (λ j. Known j × Edge es j) _<_ (edge es) (Joined es) (λ x y h _. lower x y h) js
-              (all-both Known (Edge es) js (w .known) (w .edges)) (w .walk);
-            linked = map-chained Known (Link es) (edge es) (Joined es) (λ x y _ _. joined-links es x y) js (w .known) (w .walk);
-            ridden = some-ride es js (w .some) (w .edges);
-            called = no-openings es js (w .edges) ∙ sym (ap (λ c. cond c 1 0) uncalled);
-            departs = sym (b .tails) ∙ w .from;
-            arrives = sym (e .heads) ∙ w .to
-          };
+            record {
+              known = w .known;
+              rising =
+                  map-chained (λ j. Known j × Edge es j) _<_ (edge es) (Joined es) (λ x y h _. lower x y h) js
+                  (all-both Known (Edge es) js (w .known) (w .edges)) (w .walk);
+              linked = map-chained Known (Link es) (edge es) (Joined es) (λ x y _ _. joined-links es x y) js (w .known) (w .walk);
+              ridden = some-ride es js (w .some) (w .edges);
+              called = no-openings es js (w .edges) ∙ sym (ap (λ c. cond c 1 0) uncalled);
+              departs = sym (b .tails) ∙ w .from;
+              arrives = sym (e .heads) ∙ w .to;
+            };
         opens = omega (arith, b .starts, w .opens);
-        closes = omega (arith, e .passed, w .closes)
+        closes = omega (arith, e .passed, w .closes);
       }
 
 pub walks-are-journeys : Walks-are-journeys

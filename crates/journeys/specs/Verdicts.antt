@@ -33,7 +33,7 @@ verdictOf m es js =
       end = ending es js;
       riding = riding es js;
       rides = rides es js;
-      score = scoreOf m es js
+      score = scoreOf m es js;
     }
 
 abbrev pub Judged : {L : Type 0} → Ops L → List Event → (ℕ → Bool) → Query → List ℕ → Option Verdict → Type 0

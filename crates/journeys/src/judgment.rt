@@ -57,7 +57,11 @@ fn end_of(event: Event) -> u64
 {
     match event {
         Event::Opening { minute, .. } => u64::from(minute),
-        Event::Ride { departure, duration, .. } => u64::from(departure) + u64::from(duration),
+        Event::Ride {
+            departure,
+            duration,
+            ..
+        } => u64::from(departure) + u64::from(duration),
     }
 }
 
@@ -89,7 +93,10 @@ fn is_known(events: &[Event], marks: &[bool], number: usize) -> bool
 fn is_link(events: &[Event], first: usize, second: usize) -> bool
     ensures { λ r. ⌜ Decides r (Link (now (events .entry)) first second) ⌝ }
 {
-    let (first, second) = (event_numbered(events, first), event_numbered(events, second));
+    let (first, second) = (
+        event_numbered(events, first),
+        event_numbered(events, second),
+    );
     reaches_at(first) == leaves_at(second) && end_of(first) <= u64::from(second.time())
 }
 
@@ -135,10 +142,22 @@ fn with_event(totals: Totals, event: Event) -> Totals
     ensures openings { λ r. ⌜ r .openings ≡ totals .openings + oneIfOpening event ⌝ }
     ensures bound { λ _. ⌜ minutes event ≤ 65535 ⌝ }
 {
-    let Totals { riding, rides, openings } = totals;
+    let Totals {
+        riding,
+        rides,
+        openings,
+    } = totals;
     match event {
-        Event::Opening { .. } => Totals { riding, rides, openings: openings + 1 },
-        Event::Ride { duration, .. } => Totals { riding: riding + u128::from(duration), rides: rides + 1, openings },
+        Event::Opening { .. } => Totals {
+            riding,
+            rides,
+            openings: openings + 1,
+        },
+        Event::Ride { duration, .. } => Totals {
+            riding: riding + u128::from(duration),
+            rides: rides + 1,
+            openings,
+        },
     }
 }
 
@@ -192,7 +211,12 @@ fn meets(query: Query, first: Event, last: Event, totals: Totals) -> bool
 }
 
 // What a journey that fits is and scores under a measure; none where the steps are not such a journey.
-pub fn judge<M: Measure>(events: &[Event], marks: &[bool], query: Query, steps: &[usize]) -> Option<Verdict>
+pub fn judge<M: Measure>(
+    events: &[Event],
+    marks: &[bool],
+    query: Query,
+    steps: &[usize],
+) -> Option<Verdict>
     ensures { λ r. ⌜ Judged (M·Measure .ops) (now (events .entry)) (inForce (now (marks .entry))) query (now (steps .entry)) r ⌝ }
 {
     if steps.len() == 0 || !is_chain(events, marks, steps) {

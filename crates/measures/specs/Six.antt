@@ -9,7 +9,7 @@ use Prim.Native.Nat.{ℕ, _+_, _-_, _^_, min}
 use lib.Dec.{eqb, leb, ltb}
 use lib.IntN.{ℤ, pos, _-ℤ_}
 use mathlib.Core.Bool.{_&&_, _||_}
-use Rattle.measures.specs.declared.six.Trip.{Trip}
+use Rattle.measures.specs.declared.by_trip.Trip.{Trip}
 use Rattle.measures.specs.Measures.{Ops}
 
 abbrev pub capped : ℕ → ℕ → ℕ
@@ -21,7 +21,7 @@ earliest =
       begin = λ t. t;
       ride = λ l d. l;
       noWorse = λ a b. leb b a;
-      settle = λ l t. (pos t, pos 999999 -ℤ pos l)
+      settle = λ l t. (pos t, pos 999999 -ℤ pos l);
     }
 
 abbrev pub latest : Ops ℕ
@@ -30,7 +30,7 @@ latest =
       begin = λ t. t;
       ride = λ l d. l;
       noWorse = λ a b. leb b a;
-      settle = λ l t. (pos 999999 -ℤ pos l, pos t)
+      settle = λ l t. (pos 999999 -ℤ pos l, pos t);
     }
 
 abbrev pub fastest : Ops Trip
@@ -39,7 +39,7 @@ fastest =
       begin = λ t. record { begin = t; riding = 0 };
       ride = λ l d. record { begin = l .begin; riding = capped (l .riding) d };
       noWorse = λ a b. ltb (b .begin) (a .begin) || (eqb (a .begin) (b .begin) && leb (a .riding) (b .riding));
-      settle = λ l t. (pos t -ℤ pos (l .begin), pos (l .riding))
+      settle = λ l t. (pos t -ℤ pos (l .begin), pos (l .riding));
     }
 
 abbrev pub leastRiding : Ops ℕ
@@ -56,5 +56,5 @@ leastWaiting =
       begin = λ t. t;
       ride = λ l d. capped l d;
       noWorse = λ a b. leb b a;
-      settle = λ l t. (pos t -ℤ pos l, pos t)
+      settle = λ l t. (pos t -ℤ pos l, pos t);
     }

@@ -1,18 +1,21 @@
 // Measures: how a journey is scored, and how labels of unfinished journeys compare.
+mod by_begin;
+mod by_rides;
+mod by_riding;
+mod by_trip;
 mod measure;
-mod six;
 
+pub use by_begin::ByEarliestArrival;
+pub use by_begin::ByLatestDeparture;
+pub use by_begin::EarliestArrival;
+pub use by_begin::LatestDeparture;
+pub use by_rides::ByFewestRides;
+pub use by_rides::FewestRides;
+pub use by_riding::ByLeastRiding;
+pub use by_riding::ByLeastWaiting;
+pub use by_riding::LeastRiding;
+pub use by_riding::LeastWaiting;
+pub use by_trip::ByFastest;
+pub use by_trip::Fastest;
+pub use by_trip::Trip;
 pub use measure::Measure;
-pub use six::ByEarliestArrival;
-pub use six::ByFastest;
-pub use six::ByFewestRides;
-pub use six::ByLatestDeparture;
-pub use six::ByLeastRiding;
-pub use six::ByLeastWaiting;
-pub use six::EarliestArrival;
-pub use six::Fastest;
-pub use six::FewestRides;
-pub use six::LatestDeparture;
-pub use six::LeastRiding;
-pub use six::LeastWaiting;
-pub use six::Trip;

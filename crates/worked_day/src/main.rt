@@ -1,4 +1,4 @@
-// Takes the worked day through records, a load and a block, and shows what a damaged copy meets.
+// Takes the worked day through records, a load and a block, shows what a damaged copy meets, and judges its best journeys.
 ghost use mathlib.Core.List.{map};
 ghost use Rattle.std.specs.Vec.{made};
 ghost use Rattle.blocks.specs.Loads.{Filled};
@@ -6,9 +6,26 @@ ghost use Rattle.records.specs.Layout.{layout};
 use blocks::Block;
 use blocks::Load;
 use faults::Fault;
+use journeys::Query;
+use journeys::Verdict;
+use journeys::judge;
+use measures::ByEarliestArrival;
+use measures::ByFastest;
+use measures::ByFewestRides;
+use measures::ByLatestDeparture;
+use measures::ByLeastRiding;
+use measures::ByLeastWaiting;
+use measures::EarliestArrival;
+use measures::Fastest;
+use measures::FewestRides;
+use measures::LatestDeparture;
+use measures::LeastRiding;
+use measures::LeastWaiting;
+use measures::Measure;
 use records::Event;
 use records::write;
 use std::io;
+use worked_scores::worked_events;
 
 // Room for one record more than the day has.
 const MEMORY_BYTES: usize = 128;
@@ -71,56 +88,64 @@ fn print_damaged(rt: &impl Print, bytes: &mut [u8], at: usize, byte: u8) -> io::
     print_block(rt, bytes)
 }
 
+// From stop 1 to stop 3 within the minutes 100 to 200.
+fn asking(call: bool) -> Query {
+    Query {
+        from: 1,
+        to: 3,
+        open: 100,
+        close: 200,
+        call,
+    }
+}
+
+// Judges a journey of the worked day, with every event in force, and prints it with its score.
+fn print_journey<M: Measure>(
+    rt: &impl Print,
+    title: &str,
+    query: Query,
+    steps: &[usize],
+) -> io::Result<()> {
+    let Some(verdict) = judge::<M>(&worked_events(), &[], query, steps) else {
+        return println!(rt, "{title}: {steps:?} does not fit");
+    };
+    let Verdict {
+        begin,
+        end,
+        riding,
+        rides,
+        score,
+    } = verdict;
+    let (first, second) = score;
+    println!(
+        rt,
+        "{title}: {steps:?} from {begin} to {end}, riding {riding}, rides {rides}, score ({first}; {second})"
+    )
+}
+
+fn print_journeys(rt: &impl Print) -> io::Result<()> {
+    print_journey::<EarliestArrival>(rt, "e", asking(false), &[2, 4])?;
+    print_journey::<LatestDeparture>(rt, "l", asking(false), &[2, 4])?;
+    print_journey::<Fastest>(rt, "f", asking(false), &[2, 4])?;
+    print_journey::<LeastRiding>(rt, "s", asking(false), &[2, 5])?;
+    print_journey::<FewestRides>(rt, "n", asking(false), &[1])?;
+    print_journey::<LeastWaiting>(rt, "c", asking(false), &[2, 4])?;
+    print_journey::<FewestRides>(rt, "n with a call", asking(true), &[1, 6])?;
+    print_journey::<LeastRiding>(rt, "s with a call", asking(true), &[2, 3, 5])?;
+    print_journey::<EarliestArrival>(rt, "e", asking(false), &[4, 2])
+}
+
 fn run(rt: &impl Print) -> io::Result<()> {
-    let day = [
-        Event::Ride {
-            from: 1,
-            to: 2,
-            departure: 100,
-            duration: 20,
-        },
-        Event::Ride {
-            from: 1,
-            to: 3,
-            departure: 105,
-            duration: 60,
-        },
-        Event::Ride {
-            from: 1,
-            to: 2,
-            departure: 110,
-            duration: 15,
-        },
-        Event::Opening {
-            stop: 2,
-            minute: 125,
-        },
-        Event::Ride {
-            from: 2,
-            to: 3,
-            departure: 125,
-            duration: 30,
-        },
-        Event::Ride {
-            from: 2,
-            to: 3,
-            departure: 148,
-            duration: 10,
-        },
-        Event::Opening {
-            stop: 3,
-            minute: 170,
-        },
-    ];
     let mut memory = [0u8; MEMORY_BYTES];
-    let count = match store(&mut memory, &day) {
+    let count = match store(&mut memory, &worked_events()) {
         Ok(count) => count,
         Err(fault) => return print_fault(rt, fault),
     };
     println!(rt, "{count} records")?;
     let end = count.saturating_mul(RECORD_BYTES).min(MEMORY_BYTES);
     print_block(rt, &memory[0..end])?;
-    print_damaged(rt, &mut memory[0..end], 7, 106)
+    print_damaged(rt, &mut memory[0..end], 7, 106)?;
+    print_journeys(rt)
 }
 
 fn main(rt: LibcRuntime) -> io::Result<()> {

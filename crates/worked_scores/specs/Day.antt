@@ -32,7 +32,7 @@ abbrev pub all : ℕ → Bool
 all j = true
 
 abbrev pub asking : ℕ → ℕ → Bool → Query
-asking o c v = record { from = 1; to = 3; open = o; close = c; call = v }
+asking o c v = record { from = 1; to = 3; «open» = o; close = c; call = v }
 
 abbrev pub Day-scores : Type 0
 Day-scores =

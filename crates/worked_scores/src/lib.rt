@@ -12,10 +12,16 @@ pub fn worked_events() -> [Event; 7]
         ride(1, 2, 100, 20),
         ride(1, 3, 105, 60),
         ride(1, 2, 110, 15),
-        Event::Opening { stop: 2, minute: 125 },
+        Event::Opening {
+            stop: 2,
+            minute: 125,
+        },
         ride(2, 3, 125, 30),
         ride(2, 3, 148, 10),
-        Event::Opening { stop: 3, minute: 170 },
+        Event::Opening {
+            stop: 3,
+            minute: 170,
+        },
     ]
 }
 
@@ -33,5 +39,4 @@ fn ride(from: u8, to: u8, departure: u32, duration: u16) -> Event
 // The best scores of the worked day, by going through every rising list of its numbers.
 pub fn worked_scores()
     ensures { λ _. ⌜ Day-scores ⌝ }
-{
-}
+{}

@@ -15,13 +15,13 @@ loop-step-again c =
     let e = c .event-numbered .ensures in
     let t = c .with-event-totals .ensures in
     let v = c .loop-step .inv in
-    let h = c .loop-step-test .taken in
-    ( omega (arith, t .riding ∙ ap (λ x. c .loop-step .totals .riding + minutes x) e, v .0, total-drop (λ j. minutes (numbered es j)) js i h)
-    , omega (arith, t .rides ∙ ap (λ x. c .loop-step .totals .rides + oneIfRide x) e, v .1, total-drop (λ j. oneIfRide (numbered es j)) js i h)
-    , omega (arith, t .openings ∙ ap (λ x. c .loop-step .totals .openings + oneIfOpening x) e, v .2, total-drop (λ j. oneIfOpening (numbered es j)) js i h)
-    , omega (arith, t .riding, t .bound, v .3)
-    , omega (arith, t .rides, one-kind (c .event-numbered .result), v .4)
-    , omega (arith, t .openings, one-kind (c .event-numbered .result), v .5)
+    let h = c .loop-step-test .taken in (
+      omega (arith, t .riding ∙ ap (λ x. c .loop-step .totals .riding + minutes x) e, v .0, total-drop (λ j. minutes (numbered es j)) js i h),
+      omega (arith, t .rides ∙ ap (λ x. c .loop-step .totals .rides + oneIfRide x) e, v .1, total-drop (λ j. oneIfRide (numbered es j)) js i h),
+      omega (arith, t .openings ∙ ap (λ x. c .loop-step .totals .openings + oneIfOpening x) e, v .2, total-drop (λ j. oneIfOpening (numbered es j)) js i h),
+      omega (arith, t .riding, t .bound, v .3),
+      omega (arith, t .rides, one-kind (c .event-numbered .result), v .4),
+      omega (arith, t .openings, one-kind (c .event-numbered .result), v .5),
     )
 
 pub returns : need.returns

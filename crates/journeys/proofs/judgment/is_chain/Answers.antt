@@ -17,7 +17,7 @@ loop-place-again c =
 pub returns : need.returns
 returns c =
     let p = inForce (c .args .marks .now) in
-    let e = drop-all (c .loop-place .place) (c .args .steps .now) (c .loop-place-test .left) in
-    ( (λ _. c .loop-place .inv .0 (subst (Chain (c .args .events .now) p) (sym e) (no-chain (c .args .events .now) p)))
-    , (λ _. refl)
+    let e = drop-all (c .loop-place .place) (c .args .steps .now) (c .loop-place-test .left) in (
+      (λ _. c .loop-place .inv .0 (subst (Chain (c .args .events .now) p) (sym e) (no-chain (c .args .events .now) p))),
+      (λ _. refl),
     )
