@@ -32,7 +32,7 @@ waiting-is-gaps es p q [] h = absurd (omega (arith, h .ridden))
 waiting-is-gaps es p q (j ∷ js) h = omega (arith, ending-sum es j js (h .linked))
 
 -- what the limits say of an event
-within-ends : (e : Event) → Within e → endOf e ≤ 999999
+pub within-ends : (e : Event) → Within e → endOf e ≤ 999999
 within-ends (Opening s m) w = leb-true m 999999 (kept-parts (leb m 999999) _ _ (w .0) .0)
 within-ends (Ride a b t d) w =
     let k = kept-parts (not (eqb a b)) _ _ (w .0) in
@@ -45,6 +45,13 @@ within-ride (Ride a b t d) w =
     let k = kept-parts (not (eqb a b)) _ _ (w .0) in
     let j = kept-parts (leb 1 d && leb d 1440) _ _ (k .1) in
     leb-true 1 d (and-parts (leb 1 d) (leb d 1440) (j .0) .0)
+
+pub within-long : (e : Event) → Within e → minutes e ≤ 1440
+within-long (Opening s m) w = omega arith
+within-long (Ride a b t d) w =
+    let k = kept-parts (not (eqb a b)) _ _ (w .0) in
+    let j = kept-parts (leb 1 d && leb d 1440) _ _ (k .1) in
+    leb-true d 1440 (and-parts (leb 1 d) (leb d 1440) (j .0) .1)
 
 module _ (es : List Event) (p : ℕ → Bool) (listed : Listed es) where
   abbrev pub Known : ℕ → Type 0

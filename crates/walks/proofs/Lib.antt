@@ -1,0 +1,4 @@
+pub mod Fitting
+pub mod Global
+pub mod Optimal
+pub mod Snocs
