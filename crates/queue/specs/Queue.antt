@@ -4,8 +4,10 @@
 --     Refused slots used fault ..      every slot is in use, and nothing changed
 --     Taken slots used x ..            x went out, and its slot is free
 --     Empty slots used ..              nothing is held, and nothing changed
+--     Seen slots used x                x is held, and is the next to be taken
 --     Putting slots used x answer ..   what `put` does, by its answer
 --     Taking slots used answer ..      what `take` does, by its answer
+--     Peeking slots used answer        what `peek` answers
 -- The last two arguments of each are the slots and the count that the call leaves. Of their fields
 --     room, full, none    say when it comes to this
 --     count, long         what the count is after, and that there are as many slots
@@ -17,7 +19,7 @@ use mathlib.Core.Path.{_≡_}
 use mathlib.Core.Bool.{Bool}
 use mathlib.Core.List.{List, [], _∷_, _++_}
 use Prim.Native.Nat.{ℕ, _+_, _≤_, _<_, min}
-use lib.ListN.{length, take, drop}
+use lib.ListN.{length, getD, take, drop}
 use Rattle.std.specs.Slices.{Shuffled}
 use Rattle.std.specs.declared.option.Option.{Option}
 use Rattle.std.specs.declared.option.Option.the-variants.{Some, None}
@@ -59,9 +61,18 @@ module _ {X : Type 0} (before : X → X → Bool) where
     pub least : Heaped before (held slots used) → Least before x (held slots used)
     pub only : Connected before → Heaped before (held slots used) → (y : X) → Least before y (held slots used) → y ≡ x
 
+  pub record Seen (slots : List X) (used : ℕ) (x : X) : Type 0 where
+    pub some : 0 < min used (length slots)
+    pub next : (d : X) → getD slots 0 d ≡ x
+    pub least : Heaped before (held slots used) → Least before x (held slots used)
+
   abbrev pub Putting : List X → ℕ → X → Result (Unit {0}) Fault → List X → ℕ → Type 0
   Putting slots used x (Ok _) slots′ used′ = Added slots used x slots′ used′
   Putting slots used x (Err fault) slots′ used′ = Refused slots used fault slots′ used′
+
+  abbrev pub Peeking : List X → ℕ → Option X → Type 0
+  Peeking slots used (Some x) = Seen slots used x
+  Peeking slots used None = min used (length slots) ≡ 0
 
   abbrev pub Taking : List X → ℕ → Option X → List X → ℕ → Type 0
   Taking slots used (Some x) slots′ used′ = Taken slots used x slots′ used′
