@@ -1,0 +1,3 @@
+pub mod Accounts
+pub mod Arrivals
+pub mod Boards
