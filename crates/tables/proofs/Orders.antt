@@ -38,9 +38,9 @@ module _ (a : Arrival → ℕ) (B : Arrival → Arrival → Bool) where
       ⊎-elim
       (λ l. ⊎-elim (λ r. above x z (omega arith)) (λ r. above x z (omega (arith, r .0))) (not-before y z k))
       (λ l.
-        ⊎-elim (λ r. above x z (omega (arith, l .0)))
-        (λ r. level x z (l .0 ∙ r .0) ∙ co x y z (l .1) (r .1))
-        (not-before y z k))
+      ⊎-elim (λ r. above x z (omega (arith, l .0)))
+      (λ r. level x z (l .0 ∙ r .0) ∙ co x y z (l .1) (r .1))
+      (not-before y z k))
       (not-before x y h)
 
 called-asymmetric : (x y : Arrival) → (not (x .called) && y .called) ≡ true → (not (y .called) && x .called) ≡ false

@@ -5,10 +5,10 @@
 --     Standing-there ..    x is the label of an entry for an event before k that leaves its traveller at stop s by t
 --     Overtaken ..         the entry e is ready by t, and who stands at its stop is no worse
 --     Accounts m log board queue used k t
---                          heaped: the queue is in heap order; few: it holds two for each event at most;
---                          queued, standing: what queue and board hold are labels of entries; covered: every
---                          entry is awaited still, or overtaken; ahead: there are no entries for later events
-use Prim.Native.Nat.{ℕ, _*_, _<_, _≤_}
+--                          heaped: the queue is in heap order; wide: the board has a slot for each stop and
+--                          call state; near: entries are for events before k; queued, standing: what queue and
+--                          board hold are labels of entries; covered: every entry is awaited still, or overtaken
+use Prim.Native.Nat.{ℕ, _<_, _≤_}
 use lib.ListN.{length}
 use mathlib.Core.Bool.{Bool, true}
 use mathlib.Core.List.{List}
@@ -49,7 +49,6 @@ module _ {L : Type 0} (m : Ops L) (log : List (Option (Entry L))) where
 
   pub record Accounts (board : List (Option (Standing L))) (queue : List Arrival) (used k t : ℕ) : Type 0 where
     pub heaped : Heaped sooner (held queue used)
-    pub few : used ≤ k * 2
     pub wide : 512 ≤ length board
     pub near : (j : ℕ) (c : Bool) (e : Entry L) → logged log j c ≡ Some e → (j < k) × (e .stop < 256)
     pub queued : (a : Arrival) → Has (held queue used) a → Queued k a

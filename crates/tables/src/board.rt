@@ -14,7 +14,10 @@ pub struct Standing<L> {
 }
 
 // Who is to stand ready: the one that comes, unless the one that stands there is no worse.
-fn prefer<M: Measure>(stands: Option<Standing<M::Label>>, comes: Standing<M::Label>) -> Standing<M::Label>
+fn prefer<M: Measure>(
+    stands: Option<Standing<M::Label>>,
+    comes: Standing<M::Label>,
+) -> Standing<M::Label>
     ensures { λ r. ⌜ r ≡ preferred (M·Measure .ops) stands comes ⌝ }
 {
     match stands {
@@ -30,7 +33,11 @@ fn prefer<M: Measure>(stands: Option<Standing<M::Label>>, comes: Standing<M::Lab
 }
 
 // Puts a label on the board, unless one that stands there is no worse.
-pub(crate) fn place<M: Measure>(board: &mut [Option<Standing<M::Label>>], at: usize, comes: Standing<M::Label>)
+pub(crate) fn place<M: Measure>(
+    board: &mut [Option<Standing<M::Label>>],
+    at: usize,
+    comes: Standing<M::Label>,
+)
     requires { ⌜ at < length (now board) ⌝ }
     ensures { λ _. ⌜ now (board .exit) ≡ set (now (board .entry)) at (Some (preferred (M·Measure .ops) (getD (now (board .entry)) at None) comes)) ⌝ }
 {

@@ -22,7 +22,11 @@ pub(crate) fn call_bit(called: bool) -> usize
 }
 
 // The entry for an event in a call state.
-pub(crate) fn entry_for<L: Copy>(log: &[Option<Entry<L>>], event: usize, called: bool) -> Option<Entry<L>>
+pub(crate) fn entry_for<L: Copy>(
+    log: &[Option<Entry<L>>],
+    event: usize,
+    called: bool,
+) -> Option<Entry<L>>
     ensures { λ r. ⌜ r ≡ logged (now (log .entry)) event called ⌝ }
 {
     if event > log.len() / 2 {
@@ -51,7 +55,11 @@ fn take_due(queue: &mut [Arrival], used: &mut usize, minute: u32) -> Option<Arri
 }
 
 // Brings an arrival to the board.
-fn bring<M: Measure>(log: &[Option<Entry<M::Label>>], board: &mut [Option<Standing<M::Label>>], arrival: Arrival)
+fn bring<M: Measure>(
+    log: &[Option<Entry<M::Label>>],
+    board: &mut [Option<Standing<M::Label>>],
+    arrival: Arrival,
+)
     ensures { λ _. ⌜ now (board .exit) ≡ brought (M·Measure .ops) (now (log .entry)) (now (board .entry)) arrival ⌝ }
 {
     let Some(entry) = entry_for(log, arrival.event, arrival.called) else {
@@ -78,7 +86,8 @@ pub(crate) fn drain<M: Measure>(
     used: &mut usize,
     minute: u32,
 )
-    ensures { λ _. ⌜ ((k t : ℕ) → t ≤ minute → Accounts (M·Measure .ops) (now (log .entry)) (now (board .entry)) (now (queue .entry)) (now (used .entry)) k t → Accounts (M·Measure .ops) (now (log .entry)) (now (board .exit)) (now (queue .exit)) (now (used .exit)) k minute × Later minute (held (now (queue .exit)) (now (used .exit)))) ⌝ }
+    ensures fewer { λ _. ⌜ now (used .exit) ≤ now (used .entry) ⌝ }
+    ensures accounts { λ _. ⌜ ((k t : ℕ) → t ≤ minute → Accounts (M·Measure .ops) (now (log .entry)) (now (board .entry)) (now (queue .entry)) (now (used .entry)) k t → Accounts (M·Measure .ops) (now (log .entry)) (now (board .exit)) (now (queue .exit)) (now (used .exit)) k minute × Later minute (held (now (queue .exit)) (now (used .exit)))) ⌝ }
 {
     while let Some(arrival) = take_due(queue, used, minute) {
         bring::<M>(log, board, arrival);

@@ -3,6 +3,7 @@ mod arrival;
 mod board;
 mod drain;
 mod entry;
+mod note;
 
 pub use arrival::Arrival;
 pub use arrival::ByMinute;

@@ -4,13 +4,13 @@ use Rattle.tables.proofs.Accounting.{due-taken, least-later, none-later}
 use Rattle.tables.proofs.drain.take_due.Needs as need
 
 pub returns-then-next-minute : need.returns-then-next-minute
-returns-then-next-minute c =
-    ( refl
-    , refl
-    , λ h.
-        least-later (c .args .minute) (c .in-Some .next) (held (c .args .queue .now) (c .args .used .now)) (c .if-next-minute .taken)
-        (c .in-Some .ensures tt .least h)
-    )
+returns-then-next-minute c = (
+  refl,
+  refl,
+  λ h.
+      least-later (c .args .minute) (c .in-Some .next) (held (c .args .queue .now) (c .args .used .now)) (c .if-next-minute .taken)
+      (c .in-Some .ensures tt .least h),
+)
 
 pub returns-else-next-minute : need.returns-else-next-minute
 returns-else-next-minute c =
