@@ -5,13 +5,16 @@ ghost use lib.ListN.{drop, length};
 ghost use mathlib.Core.Bool.{_&&_};
 ghost use mathlib.Core.Path.{_≡_};
 ghost use Rattle.std.specs.Orderings.{Decides};
-ghost use Rattle.journeys.specs.Formulas.{along, through};
-ghost use Rattle.journeys.specs.Journeys.{endOf, leaves, Link, minutes, numbered, oneIfOpening, oneIfRide, reaches};
+ghost use Rattle.journeys.specs.Formulas.{along};
+ghost use Rattle.journeys.specs.Journeys.{Link, minutes, numbered, oneIfOpening, oneIfRide};
 ghost use Rattle.journeys.specs.Verdicts.{Asked, Chain, inForce, Judged, Next, totalsOf};
 use crate::query::Query;
+use crate::travel::end_of;
+use crate::travel::label_through;
+use crate::travel::leaves_at;
+use crate::travel::reaches_at;
 use measures::Measure;
 use records::Event;
-use records::Stop;
 
 // What is said of a journey that fits.
 #[derive(Clone, Copy)]
@@ -29,40 +32,6 @@ struct Totals {
     riding: u128,
     rides: usize,
     openings: usize,
-}
-
-// The stop that a ride leaves, or at which an opening is.
-fn leaves_at(event: Event) -> Stop
-    ensures { λ r. ⌜ r ≡ leaves event ⌝ }
-{
-    match event {
-        Event::Opening { stop, .. } => stop,
-        Event::Ride { from, .. } => from,
-    }
-}
-
-// The stop that a ride reaches, or at which an opening is.
-fn reaches_at(event: Event) -> Stop
-    ensures { λ r. ⌜ r ≡ reaches event ⌝ }
-{
-    match event {
-        Event::Opening { stop, .. } => stop,
-        Event::Ride { to, .. } => to,
-    }
-}
-
-// The arrival of a ride, or the minute of an opening.
-fn end_of(event: Event) -> u64
-    ensures { λ r. ⌜ r ≡ endOf event ⌝ }
-{
-    match event {
-        Event::Opening { minute, .. } => u64::from(minute),
-        Event::Ride {
-            departure,
-            duration,
-            ..
-        } => u64::from(departure) + u64::from(duration),
-    }
 }
 
 // The event with a number; beyond the list, an opening that no one can use.
@@ -174,16 +143,6 @@ fn add_up(events: &[Event], steps: &[usize]) -> Totals
         totals = with_event(totals, event_numbered(events, *step));
     }
     totals
-}
-
-// A label taken through an event.
-fn label_through<M: Measure>(label: M::Label, event: Event) -> M::Label
-    ensures { λ r. ⌜ r ≡ through (M·Measure .ops) event label ⌝ }
-{
-    match event {
-        Event::Opening { .. } => label,
-        Event::Ride { duration, .. } => M::ride(label, duration),
-    }
 }
 
 // A label taken through the numbered events.

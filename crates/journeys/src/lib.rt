@@ -2,6 +2,7 @@
 mod facts;
 mod judgment;
 mod query;
+mod travel;
 
 pub use facts::six_measures_are_plain;
 pub use facts::waiting_is_gaps;
@@ -11,3 +12,7 @@ pub use judgment::judge;
 pub use query::Query;
 pub use query::QueryDebug;
 pub use query::QueryPartialEq;
+pub use travel::end_of;
+pub use travel::label_through;
+pub use travel::leaves_at;
+pub use travel::reaches_at;

@@ -1,0 +1,4 @@
+pub mod Accounts
+pub mod Arrivals
+pub mod Boards
+pub mod Entering

@@ -1,3 +1,0 @@
-pub mod Accounts
-pub mod Arrivals
-pub mod Boards
