@@ -2,3 +2,4 @@ pub mod Accounts
 pub mod Arrivals
 pub mod Boards
 pub mod Entering
+pub mod Views
