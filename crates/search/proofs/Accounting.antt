@@ -68,7 +68,7 @@ has-cases x y xs (zero, l, e) = inl (e y)
 has-cases x y xs (suc k, l, e) = inr (k, omega arith, e)
 
 -- a slot tells stop and call state
-slot-stop : (s t : ℕ) (b c : Bool) → slotOf s b ≡ slotOf t c → (s ≡ t) × (b ≡ c)
+pub slot-stop : (s t : ℕ) (b c : Bool) → slotOf s b ≡ slotOf t c → (s ≡ t) × (b ≡ c)
 slot-stop s t true true h = (omega arith, refl)
 slot-stop s t false false h = (omega arith, refl)
 slot-stop s t true false h = absurd (omega arith)

@@ -46,32 +46,32 @@ module _ {L : Type 0} (m : Ops L) (laws : Laws m) where
   chosen-over-fresh l None b = ((l, Start), refl, itself l)
   chosen-over-fresh l (Some x) b = by-test (m .noWorse (x .label) l) refl
     where
-    by-test : (t : Bool) → m .noWorse (x .label) l ≡ t → Over (cond t (Some (x .label, After (x .event) b)) (Some (l, Start))) l
-    by-test true h = ((x .label, After (x .event) b), refl, h)
-    by-test false h = ((l, Start), refl, itself l)
+      by-test : (t : Bool) → m .noWorse (x .label) l ≡ t → Over (cond t (Some (x .label, After (x .event) b)) (Some (l, Start))) l
+      by-test true h = ((x .label, After (x .event) b), refl, h)
+      by-test false h = ((l, Start), refl, itself l)
 
   chosen-over-ready : (f : Option L) (x : Standing L) (b : Bool) → Over (chosen m f (Some x) b) (x .label)
   chosen-over-ready None x b = ((x .label, After (x .event) b), refl, itself (x .label))
   chosen-over-ready (Some l) x b = by-test (m .noWorse (x .label) l) refl
     where
-    by-test : (t : Bool) → m .noWorse (x .label) l ≡ t → Over (cond t (Some (x .label, After (x .event) b)) (Some (l, Start))) (x .label)
-    by-test true h = ((x .label, After (x .event) b), refl, itself (x .label))
-    by-test false h = ((l, Start), refl, ⊎-elim (λ k. absurd (both-ways _ h k)) (λ k. k) (laws .total (x .label) l))
+      by-test : (t : Bool) → m .noWorse (x .label) l ≡ t → Over (cond t (Some (x .label, After (x .event) b)) (Some (l, Start))) (x .label)
+      by-test true h = ((x .label, After (x .event) b), refl, itself (x .label))
+      by-test false h = ((l, Start), refl, ⊎-elim (λ k. absurd (both-ways _ h k)) (λ k. k) (laws .total (x .label) l))
 
   -- where a choice came from
   chosen-from : (f : Option L) (r : Option (Standing L)) (b : Bool) (x : L × code.Origin) → chosen m f r b ≡ Some x → ((f ≡ Some (x .0)) × (x .1 ≡ Start)) ⊎ ((s : Standing L) × (r ≡ Some s) × (x .0 ≡ s .label) × (x .1 ≡ After (s .event) b))
   chosen-from None None b x h = absurd (none-some h)
     where
-    none-some : {X : Type 0} {x : X} → None ≡ Some x → ⊥
-    none-some h = let y : _≡_ {A = ℕ} 0 1 = cc in omega arith
+      none-some : {X : Type 0} {x : X} → None ≡ Some x → ⊥
+      none-some h = let y : _≡_ {A = ℕ} 0 1 = cc in omega arith
   chosen-from (Some l) None b x h = let y : (l, Start) ≡ x = cc in inl (ap (λ z. Some (z .0)) y, sym (ap (λ z. z .1) y))
   chosen-from None (Some s) b x h =
       let y : (s .label, After (s .event) b) ≡ x = cc in inr (s, refl, sym (ap (λ z. z .0) y), sym (ap (λ z. z .1) y))
   chosen-from (Some l) (Some s) b x h = by-test (m .noWorse (s .label) l) h
     where
-    by-test : (t : Bool) → cond t (Some (s .label, After (s .event) b)) (Some (l, Start)) ≡ Some x → ((Some l ≡ Some (x .0)) × (x .1 ≡ Start)) ⊎ ((u : Standing L) × (Some s ≡ Some u) × (x .0 ≡ u .label) × (x .1 ≡ After (u .event) b))
-    by-test true h = let y : (s .label, After (s .event) b) ≡ x = cc in inr (s, refl, sym (ap (λ z. z .0) y), sym (ap (λ z. z .1) y))
-    by-test false h = let y : (l, Start) ≡ x = cc in inl (ap (λ z. Some (z .0)) y, sym (ap (λ z. z .1) y))
+      by-test : (t : Bool) → cond t (Some (s .label, After (s .event) b)) (Some (l, Start)) ≡ Some x → ((Some l ≡ Some (x .0)) × (x .1 ≡ Start)) ⊎ ((u : Standing L) × (Some s ≡ Some u) × (x .0 ≡ u .label) × (x .1 ≡ After (u .event) b))
+      by-test true h = let y : (s .label, After (s .event) b) ≡ x = cc in inr (s, refl, sym (ap (λ z. z .0) y), sym (ap (λ z. z .1) y))
+      by-test false h = let y : (l, Start) ≡ x = cc in inl (ap (λ z. Some (z .0)) y, sym (ap (λ z. z .1) y))
 
 some-same : {X : Type 0} {x y : X} → Some x ≡ Some y → x ≡ y
 some-same h = cc
@@ -104,11 +104,11 @@ module _ {L : Type 0} (m : Ops L) (laws : Laws m) (es : List Event) (p : ℕ →
       let label : e .label ≡ l = ap (λ x. x .0) (v .2) in
       ⊎-elim
       (λ i. absurd (omega (arith, all-has (λ x. timeOf here < x .minute) (held queue used) _ later i, a .1, link .1)))
-      (λ s.
-        ( s .1 .0
-        , ap (λ x. stands board x b) (sym (a .0 ∙ link .0)) ∙ s .1 .1
-        , subst (λ y. m .noWorse (s .1 .0 .label) y ≡ true) label (s .1 .2)
-        ))
+      (λ s. (
+        s .1 .0,
+        ap (λ x. stands board x b) (sym (a .0 ∙ link .0)) ∙ s .1 .1,
+        subst (λ y. m .noWorse (s .1 .0 .label) y ≡ true) label (s .1 .2),
+      ))
       (accounts .covered j b e (v .1))
 
   -- with the fresh label f, where there may be one, and the call state b before the event
@@ -119,18 +119,18 @@ module _ {L : Type 0} (m : Ops L) (laws : Laws m) (es : List Event) (p : ℕ →
     over-candidate : (l : L) (o : logs.Origin) → Candidate m es p q (view log) k c l o → (x : L × code.Origin) × (choice ≡ Some x) × (m .noWorse (through m here (x .0)) l ≡ true)
     over-candidate l o (fresh s z) =
         let e = starts s z in
-        let v = chosen-over-fresh m laws (m .begin (timeOf here)) (stands board (leaves here) b) b in
-        ( v .0
-        , ap (λ y. chosen m y (stands board (leaves here) b) b) e ∙ v .1
-        , through-kept m laws here within (v .0 .0) (m .begin (timeOf here)) (v .2)
+        let v = chosen-over-fresh m laws (m .begin (timeOf here)) (stands board (leaves here) b) b in (
+          v .0,
+          ap (λ y. chosen m y (stands board (leaves here) b) b) e ∙ v .1,
+          through-kept m laws here within (v .0 .0) (m .begin (timeOf here)) (v .2),
         )
     over-candidate l o (linked j d a r kn lt link ps g) =
         let same : d ≡ b = same-before here d b c ps pass in
         let x = ready-stands j b a r link (subst (λ y. view log j y ≡ Some (a, r)) same g) in
-        let v = chosen-over-ready m laws f (x .0) b in
-        ( v .0
-        , ap (λ y. chosen m f y b) (x .1) ∙ v .1
-        , through-kept m laws here within (v .0 .0) a (laws .transitive (v .0 .0) (x .0 .label) a (v .2) (x .2))
+        let v = chosen-over-ready m laws f (x .0) b in (
+          v .0,
+          ap (λ y. chosen m f y b) (x .1) ∙ v .1,
+          through-kept m laws here within (v .0 .0) a (laws .transitive (v .0 .0) (x .0 .label) a (v .2) (x .2)),
         )
 
     -- what was chosen is a candidate
@@ -138,33 +138,33 @@ module _ {L : Type 0} (m : Ops L) (laws : Laws m) (es : List Event) (p : ℕ →
     is-candidate x h =
         ⊎-elim
         (λ s.
-          let w = started (x .0) (s .0) in
-          subst (λ l. Candidate m es p q (view log) k c (through m here l) (originOf (x .1))) (sym (w .2))
-          (subst (λ o. Candidate m es p q (view log) k c (through m here (m .begin (timeOf here))) (originOf o)) (sym (s .1)) (fresh (w .0) (w .1))))
+        let w = started (x .0) (s .0) in
+        subst (λ l. Candidate m es p q (view log) k c (through m here l) (originOf (x .1))) (sym (w .2))
+        (subst (λ o. Candidate m es p q (view log) k c (through m here (m .begin (timeOf here))) (originOf o)) (sym (s .1)) (fresh (w .0) (w .1))))
         (λ r.
-          let s = r .0 in
-          let t = accounts .standing (leaves here) b s (stop-small here within) (r .1) in
-          let e = t .1 .0 in
-          let a = agrees (s .event) b e (t .1 .1) in
-          let link : Link es (s .event) k = (sym (a .0) ∙ t .1 .3, omega (arith, a .1, t .1 .4)) in
-          let g : view log (s .event) b ≡ Some (s .label, originOf (e .origin)) = ap (mapped noted) (t .1 .1) ∙ ap (λ l. Some (l, originOf (e .origin))) (t .1 .2) in
-          subst (λ l. Candidate m es p q (view log) k c (through m here l) (originOf (x .1))) (sym (r .2))
-          (subst (λ o. Candidate m es p q (view log) k c (through m here (s .label)) (originOf o)) (sym (r .3))
-          (linked (s .event) b (s .label) (originOf (e .origin)) known (t .0) link pass g)))
+        let s = r .0 in
+        let t = accounts .standing (leaves here) b s (stop-small here within) (r .1) in
+        let e = t .1 .0 in
+        let a = agrees (s .event) b e (t .1 .1) in
+        let link : Link es (s .event) k = (sym (a .0) ∙ t .1 .3, omega (arith, a .1, t .1 .4)) in
+        let g : view log (s .event) b ≡ Some (s .label, originOf (e .origin)) = ap (mapped noted) (t .1 .1) ∙ ap (λ l. Some (l, originOf (e .origin))) (t .1 .2) in
+        subst (λ l. Candidate m es p q (view log) k c (through m here l) (originOf (x .1))) (sym (r .2))
+        (subst (λ o. Candidate m es p q (view log) k c (through m here (s .label)) (originOf o)) (sym (r .3))
+        (linked (s .event) b (s .label) (originOf (e .origin)) known (t .0) link pass g)))
         (chosen-from m laws f (stands board (leaves here) b) b x h)
       where
-      stop-small : (e : Event) → Within e → leaves e < 256
-      stop-small (Opening s u) w = w .1
-      stop-small (Ride a d u v) w = w .1 .0
+        stop-small : (e : Event) → Within e → leaves e < 256
+        stop-small (Opening s u) w = w .1
+        stop-small (Ride a d u v) w = w .1 .0
 
     right-by : (r : Option (L × code.Origin)) → choice ≡ r → Right-at m es p q (view log) k c (mapped noted (entered m here r))
-    right-by (Some x) h =
-        ( is-candidate x h
-        , λ l o d.
-            let v = over-candidate l o d in
-            let same : v .0 ≡ x = some-same (sym (v .1) ∙ h) in
-            subst (λ y. m .noWorse (through m here (y .0)) l ≡ true) same (v .2)
-        )
+    right-by (Some x) h = (
+      is-candidate x h,
+      λ l o d.
+          let v = over-candidate l o d in
+          let same : v .0 ≡ x = some-same (sym (v .1) ∙ h) in
+          subst (λ y. m .noWorse (through m here (y .0)) l ≡ true) same (v .2),
+    )
     right-by None h = λ l o d. let v = over-candidate l o d in none-some (sym h ∙ v .1)
 
     pub right-entry : Right-at m es p q (view log) k c (mapped noted (entered m here choice))
@@ -178,19 +178,19 @@ module _ {L : Type 0} (m : Ops L) (laws : Laws m) (es : List Event) (p : ℕ →
   starts-fresh : (l : L) → freshLabel m q here ≡ Some l → Starts es p q k × (l ≡ m .begin (timeOf here))
   starts-fresh l h = by-test (eqb (leaves here) (q .from) && leb (q .open) (timeOf here)) refl h
     where
-    by-test : (t : Bool) → (eqb (leaves here) (q .from) && leb (q .open) (timeOf here)) ≡ t → cond t (Some (m .begin (timeOf here))) None ≡ Some l → Starts es p q k × (l ≡ m .begin (timeOf here))
-    by-test true e h =
-        let t = and-parts (eqb (leaves here) (q .from)) (leb (q .open) (timeOf here)) e in
-        ((known, eqb-true (leaves here) (q .from) (t .0), leb-true (q .open) (timeOf here) (t .1)), sym (some-same h))
-    by-test false e h = absurd (none-some h)
+      by-test : (t : Bool) → (eqb (leaves here) (q .from) && leb (q .open) (timeOf here)) ≡ t → cond t (Some (m .begin (timeOf here))) None ≡ Some l → Starts es p q k × (l ≡ m .begin (timeOf here))
+      by-test true e h =
+          let t = and-parts (eqb (leaves here) (q .from)) (leb (q .open) (timeOf here)) e in
+          ((known, eqb-true (leaves here) (q .from) (t .0), leb-true (q .open) (timeOf here) (t .1)), sym (some-same h))
+      by-test false e h = absurd (none-some h)
 
   -- the entry of a step is right, in either call state
   right-at : (o c : Bool) → isOpening here ≡ o → Right-at m es p q (view log) k c (mapped noted (entered m here (bestAt m board q here o c)))
   right-at true false e = λ l o d. no-opening l o d
     where
-    no-opening : (l : L) (o : logs.Origin) → Candidate m es p q (view log) k false l o → ⊥
-    no-opening l o (fresh s z) = both-ways _ z e
-    no-opening l o (linked j b a r kn lt link (rides _ n) g) = both-ways _ n e
+      no-opening : (l : L) (o : logs.Origin) → Candidate m es p q (view log) k false l o → ⊥
+      no-opening l o (fresh s z) = both-ways _ z e
+      no-opening l o (linked j b a r kn lt link (rides _ n) g) = both-ways _ n e
   right-at true true e =
       right-entry true (freshLabel m q here) false (λ s _. fresh-starts s) (λ l h. let w = starts-fresh l h in (w .0, e, w .1)) (calls e)
   right-at false true e =

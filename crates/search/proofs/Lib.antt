@@ -1,3 +1,4 @@
 pub mod Accounting
 pub mod Entries
 pub mod Orders
+pub mod Stepping

@@ -5,6 +5,7 @@ mod drain;
 mod enter;
 mod entry;
 mod note;
+mod step;
 
 pub use arrival::Arrival;
 pub use arrival::ByMinute;
