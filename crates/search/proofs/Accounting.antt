@@ -22,6 +22,7 @@ use Rattle.search.specs.declared.board.Standing.{Standing}
 use Rattle.search.specs.declared.entry.Entry.{Entry}
 use Rattle.search.specs.Accounts.{Accounts, Due, Later, Overtaken, Queued, Standing-there}
 use Rattle.search.specs.Arrivals.{sooner}
+use Rattle.search.proofs.Somes.{none-some, some-same}
 use Rattle.search.specs.Boards.{bit, brought, broughtBy, logged, preferred, slotOf, stands}
 
 -- what is not sooner is not earlier
@@ -75,7 +76,7 @@ slot-stop s t true false h = absurd (omega arith)
 slot-stop s t false true h = absurd (omega arith)
 
 module _ {L : Type 0} (m : Ops L) (laws : Laws m) where
-  no-worse-itself : (l : L) → m .noWorse l l ≡ true
+  pub no-worse-itself : (l : L) → m .noWorse l l ≡ true
   no-worse-itself l = ⊎-elim (λ h. h) (λ h. h) (laws .total l l)
 
   -- who is preferred is no worse than who comes, and than who stood there
@@ -184,9 +185,6 @@ module _ {L : Type 0} (m : Ops L) (laws : Laws m) (log : List (Option (Entry L))
           subst (λ x. m .noWorse (chosen .label) (x .label) ≡ true) same (preferred-comes m laws (stands board (entry .stop) (a .called)) comes),
         ),
       )
-    where
-      some-same : {X : Type 0} {x y : X} → Some x ≡ Some y → x ≡ y
-      some-same h = cc
 
   accounts-brought : Accounts m log board′ queue′ used′ k minute
   accounts-brought =
@@ -214,9 +212,6 @@ module _ {L : Type 0} (m : Ops L) (laws : Laws m) (log : List (Option (Entry L))
             (λ o. inr (still-over e c o))
             (accounts .covered j c e h);
       }
-    where
-      some-same : {X : Type 0} {x y : X} → Some x ≡ Some y → x ≡ y
-      some-same h = cc
 
   brought-accounts : Accounts m log (brought m log board a) queue′ used′ k minute
   brought-accounts = subst (λ b. Accounts m log b queue′ used′ k minute) (sym (ap (broughtBy m board a) logged-entry)) accounts-brought
@@ -245,12 +240,9 @@ module _ {L : Type 0} (m : Ops L) (log : List (Option (Entry L))) (board : List 
   kept : (j : ℕ) (b : Bool) (x : Entry L) → logged log j b ≡ Some x → logged log′ j b ≡ Some x
   kept j b x h =
       ⊎-elim
-      (λ s. let y : _≡_ {A = ℕ} 0 1 = absurd (some-none (sym h ∙ ap (λ z. getD log z None) s ∙ none)) in absurd (omega arith))
+      (λ s. absurd (none-some (sym (sym h ∙ ap (λ z. getD log z None) s ∙ none))))
       (λ n. other j b n ∙ h)
       (cases-eq (slotOf j b) (slotOf i c))
-    where
-      some-none : {X : Type 0} {x : X} → Some x ≡ None → ⊥
-      some-none h = let y : _≡_ {A = ℕ} 0 1 = cc in omega arith
 
   -- an entry that is there now was there, or is the new one
   whence : (j : ℕ) (b : Bool) (x : Entry L) → logged log′ j b ≡ Some x → ((j ≡ i) × (b ≡ c) × (e ≡ x)) ⊎ (logged log j b ≡ Some x)
@@ -259,9 +251,6 @@ module _ {L : Type 0} (m : Ops L) (log : List (Option (Entry L))) (board : List 
       (λ s. let z = slot-stop j i b c s in inl (z .0, z .1, some-same (sym (written j b s) ∙ h)))
       (λ n. inr (sym (other j b n) ∙ h))
       (cases-eq (slotOf j b) (slotOf i c))
-    where
-      some-same : {X : Type 0} {x y : X} → Some x ≡ Some y → x ≡ y
-      some-same h = cc
 
   pub accounts-noted : Accounts m log′ board queue′ used′ k t
   accounts-noted =

@@ -33,29 +33,28 @@ use Rattle.search.specs.Accounts.{Accounts, Later, Standing-there}
 use Rattle.search.specs.Boards.{logged, stands}
 use Rattle.search.specs.Entering.{bestAt, bestBefore, chosen, entered, freshLabel}
 use Rattle.search.specs.Views.{Agrees, noted, originOf, view}
+use Rattle.search.proofs.Accounting.{no-worse-itself}
+use Rattle.search.proofs.Somes.{none-some, some-same}
 
 -- what a choice is better than
 module _ {L : Type 0} (m : Ops L) (laws : Laws m) where
-  itself : (l : L) → m .noWorse l l ≡ true
-  itself l = ⊎-elim (λ h. h) (λ h. h) (laws .total l l)
-
   abbrev Over : Option (L × code.Origin) → L → Type 0
   Over r l = (x : L × code.Origin) × (r ≡ Some x) × (m .noWorse (x .0) l ≡ true)
 
   chosen-over-fresh : (l : L) (r : Option (Standing L)) (b : Bool) → Over (chosen m (Some l) r b) l
-  chosen-over-fresh l None b = ((l, Start), refl, itself l)
+  chosen-over-fresh l None b = ((l, Start), refl, no-worse-itself m laws l)
   chosen-over-fresh l (Some x) b = by-test (m .noWorse (x .label) l) refl
     where
       by-test : (t : Bool) → m .noWorse (x .label) l ≡ t → Over (cond t (Some (x .label, After (x .event) b)) (Some (l, Start))) l
       by-test true h = ((x .label, After (x .event) b), refl, h)
-      by-test false h = ((l, Start), refl, itself l)
+      by-test false h = ((l, Start), refl, no-worse-itself m laws l)
 
   chosen-over-ready : (f : Option L) (x : Standing L) (b : Bool) → Over (chosen m f (Some x) b) (x .label)
-  chosen-over-ready None x b = ((x .label, After (x .event) b), refl, itself (x .label))
+  chosen-over-ready None x b = ((x .label, After (x .event) b), refl, no-worse-itself m laws (x .label))
   chosen-over-ready (Some l) x b = by-test (m .noWorse (x .label) l) refl
     where
       by-test : (t : Bool) → m .noWorse (x .label) l ≡ t → Over (cond t (Some (x .label, After (x .event) b)) (Some (l, Start))) (x .label)
-      by-test true h = ((x .label, After (x .event) b), refl, itself (x .label))
+      by-test true h = ((x .label, After (x .event) b), refl, no-worse-itself m laws (x .label))
       by-test false h = ((l, Start), refl, ⊎-elim (λ k. absurd (both-ways _ h k)) (λ k. k) (laws .total (x .label) l))
 
   -- where a choice came from
@@ -72,12 +71,6 @@ module _ {L : Type 0} (m : Ops L) (laws : Laws m) where
       by-test : (t : Bool) → cond t (Some (s .label, After (s .event) b)) (Some (l, Start)) ≡ Some x → ((Some l ≡ Some (x .0)) × (x .1 ≡ Start)) ⊎ ((u : Standing L) × (Some s ≡ Some u) × (x .0 ≡ u .label) × (x .1 ≡ After (u .event) b))
       by-test true h = let y : (s .label, After (s .event) b) ≡ x = cc in inr (s, refl, sym (ap (λ z. z .0) y), sym (ap (λ z. z .1) y))
       by-test false h = let y : (l, Start) ≡ x = cc in inl (ap (λ z. Some (z .0)) y, sym (ap (λ z. z .1) y))
-
-some-same : {X : Type 0} {x y : X} → Some x ≡ Some y → x ≡ y
-some-same h = cc
-
-none-some : {X : Type 0} {x : X} → None ≡ Some x → ⊥
-none-some h = let y : _≡_ {A = ℕ} 0 1 = cc in omega arith
 
 -- an entry behind what a view shows
 viewed : {L : Type 0} (r : Option (Entry L)) (x : L × logs.Origin) → mapped noted r ≡ Some x → (e : Entry L) × (r ≡ Some e) × (noted e ≡ x)

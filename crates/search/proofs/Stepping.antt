@@ -35,6 +35,7 @@ use Rattle.search.specs.Standing.{Noting, Stands-right, Steps}
 use Rattle.search.specs.Views.{Agrees, noted, view}
 use Rattle.search.proofs.Accounting.{accounts-noted, slot-stop}
 use Rattle.search.proofs.Entries.{right-step}
+use Rattle.search.proofs.Somes.{none-some, some-same}
 
 -- candidates look only at earlier entries
 module _ {L : Type 0} (m : Ops L) (es : List Event) (p : ℕ → Bool) (q : Query) (g h : Log L) (i : ℕ) (same : (j : ℕ) (b : Bool) → j < i → g j b ≡ h j b) where
@@ -103,9 +104,6 @@ module _ {L : Type 0} (m : Ops L) (log : List (Option (Entry L))) (board : List 
       by-entry None e = refl
       by-entry (Some x) e = absurd (omega (arith, a .near k c x e .0))
 
-some-same : {X : Type 0} {x y : X} → Some x ≡ Some y → x ≡ y
-some-same h = cc
-
 -- a step with the event out of force, and one with it in force
 module _ {L : Type 0} (m : Ops L) (laws : Laws m) (es : List Event) (p : ℕ → Bool) (q : Query) (k : ℕ) (listed : Listed es) (inside : k < length es) (log : List (Option (Entry L))) (board : List (Option (Standing L))) (queue : List Arrival) (used : ℕ) (accounts : Accounts m log board queue used k (timeOf (numbered es k))) (later : Later (timeOf (numbered es k)) (held queue used)) (agrees : Agrees es log) (right : Right m es p q (view log) k) where
   abbrev here : Event
@@ -146,7 +144,7 @@ module _ {L : Type 0} (m : Ops L) (laws : Laws m) (es : List Event) (p : ℕ →
   entry-here c e = by-choice (bestBefore m board q here c)
     where
       by-choice : (x : Option (L × code.Origin)) → entered m here x ≡ Some e → (e .stop ≡ reaches here) × (e .end ≡ endOf here)
-      by-choice None h = let y : _≡_ {A = ℕ} 0 1 = cc in absurd (omega arith)
+      by-choice None h = absurd (none-some h)
       by-choice (Some x) h =
           let y = some-same h in
           let capped : cappedEnd here ≡ endOf here = omega (arith, within-ends here within) in
