@@ -1,4 +1,4 @@
-// Takes the worked day through records, a load and a block, shows what a damaged copy meets, and judges its best journeys.
+// Takes the worked day through records, a load and a source, beside two lines, shows what a damaged copy meets, and judges its best journeys.
 ghost use mathlib.Core.List.{map};
 ghost use Rattle.std.specs.Vec.{made};
 ghost use Rattle.blocks.specs.Loads.{Filled};
@@ -9,6 +9,8 @@ use faults::Fault;
 use journeys::Query;
 use journeys::Verdict;
 use journeys::judge;
+use lines::LineSource;
+use lines::RideSource;
 use measures::ByEarliestArrival;
 use measures::ByFastest;
 use measures::ByFewestRides;
@@ -24,6 +26,10 @@ use measures::LeastWaiting;
 use measures::Measure;
 use records::Event;
 use records::write;
+use sources::RecordSource;
+use sources::Source;
+use sources::TableSource;
+use sources::read_through;
 use std::io;
 use worked_scores::worked_events;
 
@@ -88,6 +94,67 @@ fn print_damaged(rt: &impl Print, bytes: &mut [u8], at: usize, byte: u8) -> io::
     print_block(rt, bytes)
 }
 
+// Two lines: 1-2 from 100 on, every 15 minutes, 3 rides of 20; and 2-3 from 115 on, every 30 minutes, 2 rides of 10.
+const LINES: [u8; 32] = [
+    3,
+    1,
+    2,
+    0,
+    0,
+    0,
+    0,
+    100,
+    0,
+    20,
+    0,
+    15,
+    0,
+    3,
+    0,
+    0, //
+    3,
+    2,
+    3,
+    0,
+    0,
+    0,
+    0,
+    115,
+    0,
+    10,
+    0,
+    30,
+    0,
+    2,
+    0,
+    0, //
+];
+
+// Reads a source through and prints how many events of each kind it has, and then the events.
+fn print_source<S: Source>(rt: &impl Print, title: &str, source: &mut S) -> io::Result<()> {
+    let counts = read_through(source);
+    let (openings, rides) = (counts.openings, counts.rides);
+    println!(rt, "{title}: {openings} openings, {rides} rides")?;
+    source.rewind();
+    for place in 0..source.size() {
+        if let Some(event) = source.next() {
+            print_event(rt, place, event)?;
+        }
+    }
+    Ok(())
+}
+
+fn print_sources(rt: &impl Print, bytes: &[u8]) -> io::Result<()> {
+    match RecordSource::open(bytes) {
+        Ok(mut source) => print_source(rt, "records", &mut source)?,
+        Err(fault) => print_fault(rt, fault)?,
+    }
+    match LineSource::open(&LINES) {
+        Ok(mut source) => print_source(rt, "lines", &mut source),
+        Err(fault) => print_fault(rt, fault),
+    }
+}
+
 // From stop 1 to stop 3 within the minutes 100 to 200.
 fn asking(call: bool) -> Query {
     Query {
@@ -143,7 +210,7 @@ fn run(rt: &impl Print) -> io::Result<()> {
     };
     println!(rt, "{count} records")?;
     let end = count.saturating_mul(RECORD_BYTES).min(MEMORY_BYTES);
-    print_block(rt, &memory[0..end])?;
+    print_sources(rt, &memory[0..end])?;
     print_damaged(rt, &mut memory[0..end], 7, 106)?;
     print_journeys(rt)
 }

@@ -1,0 +1,4 @@
+pub mod Lines
+pub mod Departures
+pub mod Merges
+pub mod Opening
