@@ -103,6 +103,11 @@ fn three_records() -> [u8; ROOM] {
     )
 }
 
+// A refusal that hands its source back.
+fn refused<S: Source>(source: S) -> Result<(), (S, Fault)> {
+    Err((source, Fault::NoJourney))
+}
+
 #[cfg(test)]
 mod tests {
     use super::*;
@@ -194,6 +199,21 @@ mod tests {
         check_eq(lines.next(), None)?;
         let mut empty = RecordSource::open(&[])?;
         check_eq(read_through(&mut empty), count_of(0, 0))
+    }
+
+    #[test]
+    fn handed_back_in_a_refusal() -> Result<(), Fail> {
+        let lines = LineSource::open(&three_lines()[0..48])?;
+        if let Err(refusal) = refused(lines) {
+            let (mut source, _) = refusal;
+            check_eq(source.next(), Some(ride(3, 4, 90, 5)))?;
+        }
+        let records = RecordSource::open(&three_records()[0..48])?;
+        if let Err(refusal) = refused(records) {
+            let (mut source, _) = refusal;
+            check_eq(source.next(), Some(ride(1, 2, 100, 20)))?;
+        }
+        Ok(())
     }
 
     #[test]
