@@ -16,10 +16,10 @@ loop-event-preserved c =
     let es = c.args.events.now in
     let i = c.loop-event.event-index in
     let f = c.add.ensures.filling _ _ c.loop-event.invariant.1 in
-    let w = value_from_ok _ _ _ (sym c.write.ensures.value ∙ c.in-ok-record.was) in
+    let w = value_from_ok _ _ _ (sym c.write.ensures.value ∙ c.in_ok-record.was) in
     let rs = map layout (take i es) in
     let e =
-    ap (λ a. rs ++ accepted a c.in-ok-record.record) c.in-ok-add.was
+    ap (λ a. rs ++ accepted a c.in_ok-record.record) c.in_ok-add.was
     ∙ ap (λ r. rs ++ r ∷ []) (sym w)
     ∙ sym (map_more layout es i (Opening 0 0) c.loop-event-test.true) in
     (c.add.ensures.named ∙ c.loop-event.invariant.0, subst (λ x. Filling c.new-load.result.memory.now x c.add.new.self.memory.now c.add.new.self.held) e f)

@@ -11,6 +11,6 @@ returns c =
     let m = c.args.memory.now in
     let n = c.args.held in
     let r = c.args.bytes.now in
-    let k : Kept (add_rules m n r) = kept_from_ok _ _ _ (sym c.check-next.ensures ∙ c.in-ok-check-next.was) in
+    let k : Kept (add_rules m n r) = kept_from_ok _ _ _ (sym c.check_next.ensures ∙ c.in_ok-check_next.was) in
     let l = eqb-true (length r) 16 (kept_parts (eqb (length r) 16) _ _ k).0 in
-    record { value = sym (judged_kept _ _ k); after = put_mid-placed n m r _ c.copy-from-slice.ensures.after l }
+    record { value = sym (judged_kept _ _ k); after = put_mid-placed n m r _ c.copy_from_slice.ensures.after l }

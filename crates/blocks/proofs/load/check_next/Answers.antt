@@ -10,7 +10,7 @@ returns c =
     let m = c.args.memory.now in
     let n = c.args.held in
     let r = c.args.bytes.now in
-    let whole = c.record-at.ensures ∙ take_all 16 r (omega arith) in
+    let whole = c.record_at.ensures ∙ take_all 16 r (omega arith) in
     let t : eqb (length r) 16 ≡ true = eq-eqb (length r) 16 (omega arith) in
     let u : (leb (n + 1) 1024 && leb (16 * n + 16) (length m)) ≡ true = and_from _ _ (le-leb (n + 1) 1024 (omega arith)) (le-leb (16 * n + 16) (length m) (omega arith)) in
-    rw (t, u) (c.check-after.ensures ∙ ap (λ x. judged (rules_after m n x) tt) whole)
+    rw (t, u) (c.check_after.ensures ∙ ap (λ x. judged (rules_after m n x) tt) whole)

@@ -8,8 +8,8 @@ returns-in-Within-Close-default c =
     let w = c.in-Within-Close-default in
     finished_at c.args.state (Some (Find w.criterion (asked w.from w.to w.open w.value false))) c.requires (grind arith)
 
-pub returns-in-default : goal.returns-in-default
-returns-in-default c = finished_at c.args.state None c.requires (grind arith)
+pub returns-in_default : goal.returns-in_default
+returns-in_default c = finished_at c.args.state None c.requires (grind arith)
 
-pub returns-in-default·2 : goal.returns-in-default·2
-returns-in-default·2 c = finished_at c.args.state None c.requires (grind arith)
+pub returns-in_default-2 : goal.returns-in_default-2
+returns-in_default-2 c = finished_at c.args.state None c.requires (grind arith)

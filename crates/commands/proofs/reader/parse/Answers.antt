@@ -6,11 +6,11 @@ use Rattle.commands.proofs.Placing.{short_texts}
 use Rattle.commands.proofs.Texts.{reads_from_answered, unique}
 use Rattle.commands.proofs.reader.parse.Goals as goal
 
-pub returns-in-default : goal.returns-in-default
-returns-in-default c =
+pub returns-in_default : goal.returns-in_default
+returns-in_default c =
     let line = c.args.line.now in
     let l = c.loop-place in
-    let r = refused_at line l.place l.state l.invariant.0 l.invariant.1 c.loop-place-test.true c.in-default.ensures in
+    let r = refused_at line l.place l.state l.invariant.0 l.invariant.1 c.loop-place-test.true c.in_default.ensures in
     record { value = r; reads = reads_from_answered line (Err (NotACommand l.place)) r; unique = unique; short = short_texts }
 
 pub loop-place-preserved : goal.loop-place-preserved
@@ -24,5 +24,5 @@ returns c =
     let line = c.args.line.now in
     let l = c.loop-place in
     let a = answered_at line l.place l.state l.invariant.0 l.invariant.1 c.loop-place-test.false c.finished.result c.finished.ensures in
-    let b = subst (Answered line) (sym c.ok-or.ensures.value) a in
-    record { value = b; reads = reads_from_answered line c.ok-or.result b; unique = unique; short = short_texts }
+    let b = subst (Answered line) (sym c.ok_or.ensures.value) a in
+    record { value = b; reads = reads_from_answered line c.ok_or.result b; unique = unique; short = short_texts }

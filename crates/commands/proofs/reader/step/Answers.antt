@@ -15,20 +15,20 @@ pub returns-in-BeforeCall-v : goal.returns-in-BeforeCall-v
 returns-in-BeforeCall-v c =
     call c.in-BeforeCall-v.criterion c.in-BeforeCall-v.query c.in-BeforeCall-v.is-0 (sym c.from.ensures ∙ c.in-BeforeCall-v.is-1) c.requires
 
-pub returns-in-default·5 : goal.returns-in-default·5
-returns-in-default·5 c = λ p. let g = goes_on_lem c.args.state c.args.byte c.requires p in grind arith
+pub returns-in_default-5 : goal.returns-in_default-5
+returns-in_default-5 c = λ p. let g = goes_on_lem c.args.state c.args.byte c.requires p in grind arith
 
-pub returns-in-default·6 : goal.returns-in-default·6
-returns-in-default·6 c = λ p. let g = goes_on_lem c.args.state c.args.byte c.requires p in grind arith
+pub returns-in_default-6 : goal.returns-in_default-6
+returns-in_default-6 c = λ p. let g = goes_on_lem c.args.state c.args.byte c.requires p in grind arith
 
-pub returns-in-default·7 : goal.returns-in-default·7
-returns-in-default·7 c = λ p. let g = goes_on_lem c.args.state c.args.byte c.requires p in grind arith
+pub returns-in_default-7 : goal.returns-in_default-7
+returns-in_default-7 c = λ p. let g = goes_on_lem c.args.state c.args.byte c.requires p in grind arith
 
-pub returns-in-default·8 : goal.returns-in-default·8
-returns-in-default·8 c = λ p. let g = goes_on_lem c.args.state c.args.byte c.requires p in grind arith
+pub returns-in_default-8 : goal.returns-in_default-8
+returns-in_default-8 c = λ p. let g = goes_on_lem c.args.state c.args.byte c.requires p in grind arith
 
-pub returns-in-default·9 : goal.returns-in-default·9
-returns-in-default·9 c = λ p. let g = goes_on_lem c.args.state c.args.byte c.requires p in grind arith
+pub returns-in_default-9 : goal.returns-in_default-9
+returns-in_default-9 c = λ p. let g = goes_on_lem c.args.state c.args.byte c.requires p in grind arith
 
-pub returns-in-default·10 : goal.returns-in-default·10
-returns-in-default·10 c = λ p. let g = goes_on_lem c.args.state c.args.byte c.requires p in grind arith
+pub returns-in_default-10 : goal.returns-in_default-10
+returns-in_default-10 c = λ p. let g = goes_on_lem c.args.state c.args.byte c.requires p in grind arith

@@ -10,16 +10,16 @@ loop-step-preserved c =
     let es = c.args.events.now in
     let js = c.args.steps.now in
     let i = c.loop-step.step-index in
-    let e = c.event-numbered.ensures in
-    let t = c.with-event-totals.ensures in
+    let e = c.event_numbered.ensures in
+    let t = c.with_event-totals.ensures in
     let v = c.loop-step.invariant in
     let h = c.loop-step-test.true in (
       omega (arith, t.riding ∙ ap (λ x. c.loop-step.totals.riding + minutes x) e, v.0, total-drop (λ j. minutes (numbered es j)) js i h),
       omega (arith, t.rides ∙ ap (λ x. c.loop-step.totals.rides + one_if_ride x) e, v.1, total-drop (λ j. one_if_ride (numbered es j)) js i h),
       omega (arith, t.openings ∙ ap (λ x. c.loop-step.totals.openings + one_if_opening x) e, v.2, total-drop (λ j. one_if_opening (numbered es j)) js i h),
       omega (arith, t.riding, t.bound, v.3),
-      omega (arith, t.rides, one_kind c.event-numbered.result, v.4),
-      omega (arith, t.openings, one_kind c.event-numbered.result, v.5),
+      omega (arith, t.rides, one_kind c.event_numbered.result, v.4),
+      omega (arith, t.openings, one_kind c.event_numbered.result, v.5),
     )
 
 pub returns : goal.returns

@@ -11,7 +11,7 @@ loop-place-preserved c =
     let js = c.args.steps.now in
     let i = c.loop-place.place in
     let h = c.loop-place-test.true in
-    let n = c.step-holds.ensures.0 c.if-not-step-holds.false in
+    let n = c.step_holds.ensures.0 c.if-not-step_holds.false in
     ((λ r. c.loop-place.invariant.0 (chain_more es p js i h n r)), (λ r. chain_less es p js i h (c.loop-place.invariant.1 r)))
 
 pub returns : goal.returns

@@ -13,16 +13,16 @@ returns-then-not-meets g c =
     λ f.
     both_ways _ c.if-not-meets.true
     (c.meets.ensures.1
-    (fits_asked es (in_force c.args.marks.now) c.args.query js _ _ _ some c.event-numbered-first.ensures c.event-numbered-last.ensures
-    c.add-up-totals.ensures f))
+    (fits_asked es (in_force c.args.marks.now) c.args.query js _ _ _ some c.event_numbered-first.ensures c.event_numbered-last.ensures
+    c.add_up-totals.ensures f))
 
 pub overflow-cast-result : goal.overflow-cast-result
 overflow-cast-result g c =
     let js = c.args.steps.now in
     let some : 0 < length js = omega arith in
     let b =
-    riding_below_close c.args.events.now (in_force c.args.marks.now) c.args.query js _ _ _ some c.event-numbered-first.ensures
-    c.event-numbered-last.ensures c.add-up-totals.ensures (c.is-chain.ensures.0 c.if-not-is-chain.false)
+    riding_below_close c.args.events.now (in_force c.args.marks.now) c.args.query js _ _ _ some c.event_numbered-first.ensures
+    c.event_numbered-last.ensures c.add_up-totals.ensures (c.is_chain.ensures.0 c.if-not-is_chain.false)
     (c.meets.ensures.0 c.if-not-meets.false) in
     search rules
 
@@ -33,11 +33,11 @@ returns g c =
     let p = in_force c.args.marks.now in
     let js = c.args.steps.now in
     let some : 0 < length js = omega arith in
-    let d = c.event-numbered-first.ensures in
-    let e = c.event-numbered-last.ensures in
-    let t = c.add-up-totals.ensures in
+    let d = c.event_numbered-first.ensures in
+    let e = c.event_numbered-last.ensures in
+    let t = c.add_up-totals.ensures in
     let b = c.begin.ensures in (
-      asked_fits es p c.args.query js _ _ _ some d e t (c.is-chain.ensures.0 c.if-not-is-chain.false) (c.meets.ensures.0 c.if-not-meets.false),
-      verdict_is es p c.args.query js _ _ _ some d e t m _ _ _ _ c.time-begin.ensures c.end-of-end.ensures
-          (c.label-along-label.ensures ∙ ap (λ x. along m es x js) b) c.settle.ensures,
+      asked_fits es p c.args.query js _ _ _ some d e t (c.is_chain.ensures.0 c.if-not-is_chain.false) (c.meets.ensures.0 c.if-not-meets.false),
+      verdict_is es p c.args.query js _ _ _ some d e t m _ _ _ _ c.time-begin.ensures c.end_of-end.ensures
+          (c.label_along-label.ensures ∙ ap (λ x. along m es x js) b) c.settle.ensures,
     )

@@ -10,7 +10,7 @@ loop-step-preserved g c =
     let es = c.args.events.now in
     let js = c.args.steps.now in
     let i = c.loop-step.step-index in
-    let e = c.label-through-label.ensures ∙ ap (λ x. through m x c.loop-step.label) c.event-numbered.ensures in
+    let e = c.label_through-label.ensures ∙ ap (λ x. through m x c.loop-step.label) c.event_numbered.ensures in
     ap (λ l. along m es l (drop (i + 1) js)) e ∙ sym (along-drop m es c.loop-step.label js i c.loop-step-test.true) ∙ c.loop-step.invariant
 
 pub returns : goal.returns

@@ -9,7 +9,7 @@ loop-place-preserved c =
     let bs = c.args.bytes.now in
     let i = c.loop-place.place in
     ap (λ l. set l i c.fields.result) c.loop-place.invariant
-    ∙ ap (set (table_to bs i) i) (c.fields.ensures ∙ ap line_in c.record-at.ensures)
+    ∙ ap (set (table_to bs i) i) (c.fields.ensures ∙ ap line_in c.record_at.ensures)
     ∙ table_to_more bs i (omega (arith, c.requires))
 
 pub returns : goal.returns

@@ -11,9 +11,9 @@ use Rattle.records.proofs.record.read.Goals.{else-bytes-ne-OPENING-via-then-byte
 pub returns : goal.returns
 returns c =
     let bs = c.args.bytes.now in
-    let l : Kept (limits c.args.place c.fields-event.result) = kept_from_ok _ _ _ (sym c.check.ensures ∙ c.in-ok-check.was) in
+    let l : Kept (limits c.args.place c.fields-event.result) = kept_from_ok _ _ _ (sym c.check.ensures ∙ c.in_ok-check.was) in
     let l' : Kept (limits c.args.place (event_in bs)) = rw c.fields-event.ensures at l in
-    let z : zeros (spare bs) ≡ true = sym c.spare-bytes-clear.ensures ∙ c.if-not-spare-bytes-clear.false in
+    let z : zeros (spare bs) ≡ true = sym c.spare_bytes_clear.ensures ∙ c.if-not-spare_bytes_clear.false in
     let t : (is_opening bs || is_ride bs) ≡ true =
     elim c.else-bytes-ne-OPENING.branch [
       | else-bytes-ne-OPENING-via-then-bytes-ne-OPENING+else-bytes-ne-RIDE w ↦ or_right _ _ (eq-eqb _ _ w.if-bytes-ne-RIDE.false)

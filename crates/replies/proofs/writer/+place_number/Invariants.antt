@@ -1,4 +1,4 @@
 use Rattle.replies.proofs.writer.+place_number.Given as goal
 
-abbrev pub decreases-place-number : goal.decreases-place-number
-decreases-place-number l = l.number
+abbrev pub decreases-place_number : goal.decreases-place_number
+decreases-place_number l = l.number

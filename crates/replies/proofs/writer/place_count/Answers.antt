@@ -4,8 +4,8 @@ use Rattle.replies.specs.Printed.{newline}
 use Rattle.replies.proofs.Placings.{placing_behind}
 use Rattle.replies.proofs.writer.place_count.Goals as goal
 
-pub returns-in-err-end : goal.returns-in-err-end
-returns-in-err-end c = rw (c.from-residual.ensures, length-append) (omega (arith, c.in-err-end.ensures))
+pub returns-in_err-end : goal.returns-in_err-end
+returns-in_err-end c = rw (c.from_residual.ensures, length-append) (omega (arith, c.in_err-end.ensures))
 
 pub returns : goal.returns
-returns c = placing_behind newline c.place-byte.new.line c.place-byte.result c.in-ok-end.ensures c.place-byte.ensures
+returns c = placing_behind newline c.place_byte.new.line c.place_byte.result c.in_ok-end.ensures c.place_byte.ensures

@@ -5,5 +5,5 @@ use Rattle.replies.proofs.writer.write.Goals as goal
 
 pub returns : goal.returns
 returns c =
-    let p = c.in-ok-length.ensures in
-    written c.args.reply c.args.steps.now c.args.out.now c.copy-from-slice.new.self c.in-ok-length.length c.if-length-out.false (omega arith) (rw sub-zero at c.copy-from-slice.ensures.after ∙ p.front)
+    let p = c.in_ok-length.ensures in
+    written c.args.reply c.args.steps.now c.args.out.now c.copy_from_slice.new.self c.in_ok-length.length c.if-length-out.false (omega arith) (rw sub-zero at c.copy_from_slice.ensures.after ∙ p.front)

@@ -8,18 +8,18 @@ use Rattle.search.specs.Searches.{Named}
 use Rattle.search.proofs.Searching.{tables_long, travelled_named}
 use Rattle.search.proofs.finder.search.Goals as goal
 
-pub check-tables-requires : goal.check-tables-requires
-check-tables-requires g c = omega (arith, c.size.ensures, (g.S.Source.listed c.args.source.now).few)
+pub check_tables-requires : goal.check_tables-requires
+check_tables-requires g c = omega (arith, c.size.ensures, (g.S.Source.listed c.args.source.now).few)
 
-pub returns-in-err-check-tables : goal.returns-in-err-check-tables
-returns-in-err-check-tables g c =
-    let p = err_from_is_err_and c.from-residual.result c.from-residual.ensures.1 in
-    let b = broken_from_err _ _ _ (sym c.check-tables.ensures ∙ c.in-err-check-tables.was) in
+pub returns-in_err-check_tables : goal.returns-in_err-check_tables
+returns-in_err-check_tables g c =
+    let p = err_from_is_err_and c.from_residual.result c.from_residual.ensures.1 in
+    let b = broken_from_err _ _ _ (sym c.check_tables.ensures ∙ c.in_err-check_tables.was) in
     record {
       found =
           rw (p.1, p.2)
           (subst
-          (λ n. first_broken (table_rules n (tables c.args.log.now c.args.board.now c.args.queue.now c.args.steps.now)) ≡ Some c.in-err-check-tables.field-0.0)
+          (λ n. first_broken (table_rules n (tables c.args.log.now c.args.board.now c.args.queue.now c.args.steps.now)) ≡ Some c.in_err-check_tables.field-0.0)
           c.size.ensures b);
       read = rw p.1 refl;
       refused = rw p.1 (refl, refl, refl, refl);
@@ -27,12 +27,12 @@ returns-in-err-check-tables g c =
 
 pub travel-requires : goal.travel-requires
 travel-requires g c =
-    let long = tables_long c.size.result (tables c.args.log.now c.args.board.now c.args.queue.now c.args.steps.now) (kept_from_ok _ _ _ (sym c.check-tables.ensures ∙ c.in-ok-check-tables.was)) in
+    let long = tables_long c.size.result (tables c.args.log.now c.args.board.now c.args.queue.now c.args.steps.now) (kept_from_ok _ _ _ (sym c.check_tables.ensures ∙ c.in_ok-check_tables.was)) in
     (omega (arith, c.size.ensures, long.0), (long.1, (omega (arith, c.size.ensures, long.2), omega (arith, c.size.ensures, long.3))))
 
 pub returns-in-Some : goal.returns-in-Some
 returns-in-Some g c =
-    let kept = kept_from_ok _ _ _ (sym c.check-tables.ensures ∙ c.in-ok-check-tables.was) in
+    let kept = kept_from_ok _ _ _ (sym c.check_tables.ensures ∙ c.in_ok-check_tables.was) in
     let found = c.in-Some.ensures in
     let m = g.M.Measure.ops in
     let es = g.S.Source.events c.args.source.now in
@@ -49,7 +49,7 @@ returns-in-Some g c =
 
 pub returns-in-None : goal.returns-in-None
 returns-in-None g c =
-    let kept = kept_from_ok _ _ _ (sym c.check-tables.ensures ∙ c.in-ok-check-tables.was) in
+    let kept = kept_from_ok _ _ _ (sym c.check_tables.ensures ∙ c.in_ok-check_tables.was) in
     let found = c.in-None.ensures in
     record {
       found = (

@@ -7,18 +7,18 @@ use Rattle.steps.specs.Views.{view}
 use Rattle.search.proofs.Searching.{backward, leader_best, none_fits}
 use Rattle.search.proofs.finder.travel.Goals as goal
 
-pub returns-in-default : goal.returns-in-default
-returns-in-default g c =
+pub returns-in_default : goal.returns-in_default
+returns-in_default g c =
     let m = g.M.Measure.ops in
     let s = c.args.source.now in
     let es = g.S.Source.events s in
     let q = c.args.query.query in
-    let log = c.read-up-done.new.log in
-    let n = c.read-up-done.result in
-    let read : ReadUp m es (in_force c.args.marks.now) q log n (g.S.Source.events c.read-up-done.new.source) (g.S.Source.place c.read-up-done.new.source) =
-    subst (λ a. ReadUp m es (in_force c.args.marks.now) a log n (g.S.Source.events c.read-up-done.new.source) (g.S.Source.place c.read-up-done.new.source))
-    c.query-asked.ensures c.read-up-done.ensures in
-    let none : Leads m q log n None = subst (λ a. Leads m a log n None) c.query-asked.ensures c.in-default.ensures in
+    let log = c.read_up-done.new.log in
+    let n = c.read_up-done.result in
+    let read : ReadUp m es (in_force c.args.marks.now) q log n (g.S.Source.events c.read_up-done.new.source) (g.S.Source.place c.read_up-done.new.source) =
+    subst (λ a. ReadUp m es (in_force c.args.marks.now) a log n (g.S.Source.events c.read_up-done.new.source) (g.S.Source.place c.read_up-done.new.source))
+    c.query-asked.ensures c.read_up-done.ensures in
+    let none : Leads m q log n None = subst (λ a. Leads m a log n None) c.query-asked.ensures c.in_default.ensures in
     record {
       travelled = (
         none_fits m g.met.M.Measure.laws es (in_force c.args.marks.now) q (g.S.Source.listed s) log n _ _ read
@@ -29,8 +29,8 @@ returns-in-default g c =
       place = read.place;
     }
 
-pub trace-back-requires : goal.trace-back-requires
-trace-back-requires g c =
+pub trace_back-requires : goal.trace_back-requires
+trace_back-requires g c =
     let m = g.M.Measure.ops in
     let s = c.args.source.now in
     let es = g.S.Source.events s in
@@ -38,9 +38,9 @@ trace-back-requires g c =
     let q = c.query-asked.result in
     let laws = g.met.M.Measure.laws in
     let listed = g.S.Source.listed s in
-    let log = c.read-up-done.new.log in
-    let n = c.read-up-done.result in
-    let read = c.read-up-done.ensures in
+    let log = c.read_up-done.new.log in
+    let n = c.read_up-done.result in
+    let read = c.read_up-done.ensures in
     let leads = c.in-Some.ensures in
     let best =
     leader_best m laws es p q listed log n _ _ read
@@ -50,7 +50,7 @@ trace-back-requires g c =
       (
         (best.0, best.1),
         (
-          omega (arith, leads.0, read.inside, c.requires.0, c.read-up-done.auto.log, c.clear.auto.table),
+          omega (arith, leads.0, read.inside, c.requires.0, c.read_up-done.auto.log, c.clear.auto.table),
           omega (arith, leads.0, read.inside, c.requires.1.1.1),
         ),
       ),
@@ -63,11 +63,11 @@ returns g c =
     let es = g.S.Source.events s in
     let p = in_force c.args.marks.now in
     let q = c.args.query.query in
-    let log = c.read-up-done.new.log in
-    let n = c.read-up-done.result in
+    let log = c.read_up-done.new.log in
+    let n = c.read_up-done.result in
     let asked = c.query-asked.ensures in
-    let read : ReadUp m es p q log n (g.S.Source.events c.read-up-done.new.source) (g.S.Source.place c.read-up-done.new.source) =
-    subst (λ a. ReadUp m es p a log n (g.S.Source.events c.read-up-done.new.source) (g.S.Source.place c.read-up-done.new.source)) asked c.read-up-done.ensures in
+    let read : ReadUp m es p q log n (g.S.Source.events c.read_up-done.new.source) (g.S.Source.place c.read_up-done.new.source) =
+    subst (λ a. ReadUp m es p a log n (g.S.Source.events c.read_up-done.new.source) (g.S.Source.place c.read_up-done.new.source)) asked c.read_up-done.ensures in
     let leads : Leads m q log n (Some c.in-Some.leader) = subst (λ a. Leads m a log n (Some c.in-Some.leader)) asked c.in-Some.ensures in
     let best =
     leader_best m g.met.M.Measure.laws es p q (g.S.Source.listed s) log n _ _ read
@@ -81,9 +81,9 @@ returns g c =
         best.2,
         best.3,
         best.4,
-        c.trace-back.ensures.count js traced,
+        c.trace_back.ensures.count js traced,
         omega (arith, c.min.ensures, c.size.ensures, ap length read.same, read.count),
-        c.trace-back.ensures.written js traced,
+        c.trace_back.ensures.written js traced,
         best.5,
       );
       same = read.same;

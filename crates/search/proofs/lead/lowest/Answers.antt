@@ -6,7 +6,7 @@ pub loop-event-init : goal.loop-event-init
 loop-event-init g c = λ i e l. absurd (omega arith)
 
 pub loop-event-preserved : goal.loop-event-preserved
-loop-event-preserved g c = c.lead-leader.ensures c.args.log.now (sym c.entry-for.ensures) c.loop-event.invariant
+loop-event-preserved g c = c.lead-leader.ensures c.args.log.now (sym c.entry_for.ensures) c.loop-event.invariant
 
 pub returns : goal.returns
 returns g c =

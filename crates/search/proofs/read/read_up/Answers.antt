@@ -16,7 +16,7 @@ loop-event-init g c =
 pub loop-event-preserved : goal.loop-event-preserved
 loop-event-preserved g c =
     standing_more _ _ _ _ (g.S.Source.listed c.rewind.new.self) _ _ _ _ _ _ _ c.loop-event.invariant _ _ c.in-Some.event c.in-Some.ensures
-    c.is-in-force-in-force.result c.is-in-force-in-force.ensures (ltb-false c.args.query.close (time_of c.in-Some.event) (sym c.is-later.ensures ∙ c.if-is-later.false)) _ _ _ _
+    c.is_in_force-in_force.result c.is_in_force-in_force.ensures (ltb-false c.args.query.close (time_of c.in-Some.event) (sym c.is_later.ensures ∙ c.if-is_later.false)) _ _ _ _
     c.step.result c.step.ensures c.step.auto.log c.step.auto.queue
 
 pub loop-event-smaller : goal.loop-event-smaller
@@ -30,13 +30,13 @@ overflow-add-number g c =
       inside _ _ _ _ (g.S.Source.listed c.rewind.new.self) _ _ _ _ _ _ _ c.loop-event.invariant _ _ c.in-Some.event c.in-Some.ensures,
     )
 
-pub returns-then-is-later : goal.returns-then-is-later
-returns-then-is-later g c =
+pub returns-then-is_later : goal.returns-then-is_later
+returns-then-is_later g c =
     subst
     (λ es. ReadUp g.M.Measure.ops es (in_force c.args.marks.now) c.args.query c.loop-event.log c.loop-event.number (g.S.Source.events c.next.new.self) (g.S.Source.place c.next.new.self))
     c.rewind.ensures.same
     (read_late _ _ _ _ (g.S.Source.listed c.rewind.new.self) _ _ _ _ _ _ _ c.loop-event.invariant _ _ c.in-Some.event c.in-Some.ensures
-    (ltb-true c.args.query.close (time_of c.in-Some.event) (sym c.is-later.ensures ∙ c.if-is-later.true)))
+    (ltb-true c.args.query.close (time_of c.in-Some.event) (sym c.is_later.ensures ∙ c.if-is_later.true)))
 
 pub returns : goal.returns
 returns g c =
@@ -44,4 +44,4 @@ returns g c =
     (λ es. ReadUp g.M.Measure.ops es (in_force c.args.marks.now) c.args.query c.loop-event.log c.loop-event.number (g.S.Source.events c.next.new.self) (g.S.Source.place c.next.new.self))
     c.rewind.ensures.same
     (read_all _ _ _ _ (g.S.Source.listed c.rewind.new.self) _ _ _ _ _ _ _ c.loop-event.invariant _ _ (g.S.Source.within c.loop-event.source)
-    c.in-default.ensures)
+    c.in_default.ensures)

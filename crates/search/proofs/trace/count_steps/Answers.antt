@@ -28,7 +28,7 @@ returns g c =
       count =
           λ js t.
           let here = c.loop-before.invariant.1 js t in
-          let back = traced_back c.args.log.now c.loop-before.stage.event c.loop-before.stage.called None here.0 c.in-default.ensures here.1 in
+          let back = traced_back c.args.log.now c.loop-before.stage.event c.loop-before.stage.called None here.0 c.in_default.ensures here.1 in
           omega (arith, here.2, simp length-append at (ap length back.2), ap length back.1);
       few = omega (arith, c.loop-before.invariant.0);
     }

@@ -10,16 +10,16 @@ loop-next-init g c =
 pub overflow-sub-place : goal.overflow-sub-place
 overflow-sub-place g c = writing_place c.loop-next.invariant c.in-Some.is
 
-pub write-step-requires : goal.write-step-requires
-write-step-requires g c = omega (arith, writing_place c.loop-next.invariant c.in-Some.is, c.loop-next.invariant.room)
+pub write_step-requires : goal.write_step-requires
+write_step-requires g c = omega (arith, writing_place c.loop-next.invariant c.in-Some.is, c.loop-next.invariant.room)
 
 pub loop-next-smaller : goal.loop-next-smaller
 loop-next-smaller g c = omega (arith, writing_place c.loop-next.invariant c.in-Some.is)
 
 pub loop-next-preserved : goal.loop-next-preserved
 loop-next-preserved g c =
-    writing_more c.args.log.now c.loop-next.invariant c.in-Some.stage c.stage-before-next.result c.write-step.new.steps c.in-Some.is
-    c.stage-before-next.ensures c.write-step.ensures
+    writing_more c.args.log.now c.loop-next.invariant c.in-Some.stage c.stage_before-next.result c.write_step.new.steps c.in-Some.is
+    c.stage_before-next.ensures c.write_step.ensures
 
 pub returns : goal.returns
-returns g c js t = writing_all c.args.log.now c.loop-next.invariant js c.in-default.is t
+returns g c js t = writing_all c.args.log.now c.loop-next.invariant js c.in_default.is t

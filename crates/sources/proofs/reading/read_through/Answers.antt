@@ -9,7 +9,7 @@ returns g c =
     record {
       through =
           subst (λ es. ReadThrough es c.loop-event.counts (g.S.Source.events c.next.new.self) (g.S.Source.place c.next.new.self)) c.rewind.ensures.same
-          (midway_end _ _ _ _ _ _ c.loop-event.invariant blank (g.S.Source.within c.loop-event.source) c.in-default.ensures);
+          (midway_end _ _ _ _ _ _ c.loop-event.invariant blank (g.S.Source.within c.loop-event.source) c.in_default.ensures);
       repeats = repeats (g.S.Source.events c.args.source.now) (g.S.Source.place c.args.source.now);
     }
 

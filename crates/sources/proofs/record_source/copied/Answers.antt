@@ -20,8 +20,8 @@ loop-place-preserved c =
     let table = c.loop-place.table in
     let h : i < length es = omega arith in
     let k : i < length table = omega arith in
-    let e = c.event-or-blank.ensures ∙ ap (λ o. unwrap_or o blank) (slice_get-get_or es i blank h) in
-    let x = c.event-or-blank.result in (
+    let e = c.event_or_blank.ensures ∙ ap (λ o. unwrap_or o blank) (slice_get-get_or es i blank h) in
+    let x = c.event_or_blank.result in (
       length-set table i x ∙ c.loop-place.invariant.0,
       take_more_set table i x k
           ∙ ap (λ l. l ++ x ∷ []) c.loop-place.invariant.1

@@ -22,9 +22,9 @@ loop-arrival-preserved g c =
       omega (arith, due.0.count, c.loop-arrival.invariant.0),
       λ k t h a.
           let here = c.loop-arrival.invariant.1 k t h a in
-          subst (λ b. Accounts m log b c.take-due.new.queue c.take-due.new.used k minute) (sym c.bring.ensures)
+          subst (λ b. Accounts m log b c.take_due.new.queue c.take_due.new.used k minute) (sym c.bring.ensures)
           (accounts_drained m g.met.M.Measure.laws log c.loop-arrival.board c.loop-arrival.queue c.loop-arrival.used k minute minute here still
-          c.in-Some.arrival c.take-due.new.queue c.take-due.new.used due.0 (due.1 here.heaped)),
+          c.in-Some.arrival c.take_due.new.queue c.take_due.new.used due.0 (due.1 here.heaped)),
     )
 
 pub returns : goal.returns
@@ -32,15 +32,15 @@ returns g c =
     let m = g.M.Measure.ops in
     let log = c.args.log.now in
     let minute = c.args.minute in
-    let none = c.in-default.ensures in
+    let none = c.in_default.ensures in
     record {
       fewer = omega (arith, none.1, c.loop-arrival.invariant.0);
       accounts =
           λ k t h a.
           let here = c.loop-arrival.invariant.1 k t h a in (
-            subst (λ u. Accounts m log c.loop-arrival.board c.take-due.new.queue u k minute) (sym none.1)
+            subst (λ u. Accounts m log c.loop-arrival.board c.take_due.new.queue u k minute) (sym none.1)
                 (subst (λ q. Accounts m log c.loop-arrival.board q c.loop-arrival.used k minute) (sym none.0) here),
-            subst (λ u. Later minute (held c.take-due.new.queue u)) (sym none.1)
+            subst (λ u. Later minute (held c.take_due.new.queue u)) (sym none.1)
                 (subst (λ q. Later minute (held q c.loop-arrival.used)) (sym none.0) (none.2 here.heaped)),
           );
     }

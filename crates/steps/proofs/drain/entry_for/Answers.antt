@@ -9,4 +9,4 @@ returns-then-event-log g c =
 
 pub returns-then-at-log : goal.returns-then-at-log
 returns-then-at-log g c =
-    sym (get_or_past c.args.log.now (slot_of c.args.event c.args.called) None (omega (arith, c.call-bit.ensures)))
+    sym (get_or_past c.args.log.now (slot_of c.args.event c.args.called) None (omega (arith, c.call_bit.ensures)))

@@ -5,4 +5,4 @@ use Rattle.steps.proofs.enter.standing_at.Goals as goal
 
 pub returns-then-at-board : goal.returns-then-at-board
 returns-then-at-board g c =
-    sym (get_or_past c.args.board.now (slot_of c.args.stop c.args.called) None (omega (arith, c.call-bit.ensures, c.from.ensures)))
+    sym (get_or_past c.args.board.now (slot_of c.args.stop c.args.called) None (omega (arith, c.call_bit.ensures, c.from.ensures)))

@@ -8,7 +8,7 @@ use Rattle.blocks.proofs.block.Block.open.Goals as goal
 pub returns : goal.returns
 returns c =
     let bs = c.args.bytes.now in
-    let t : Kept (size_rules bs) = kept_from_ok _ _ _ (sym c.check-size.ensures ∙ c.in-ok-check-size.was) in
-    let u : Kept (records_rules bs) = kept_from_ok _ _ _ (sym c.check-each.ensures ∙ c.in-ok-check-each.was) in
+    let t : Kept (size_rules bs) = kept_from_ok _ _ _ (sym c.check_size.ensures ∙ c.in_ok-check_size.was) in
+    let u : Kept (records_rules bs) = kept_from_ok _ _ _ (sym c.check_each.ensures ∙ c.in_ok-check_each.was) in
     let k : Kept (block_rules bs) = first_broken_kept (size_rules bs) (records_rules bs) t ∙ u in
-    record { value = sym (judged_kept _ _ k); same = refl; listed = listed_events_of bs (λ i. omega (arith, (c.type-inv.bytes i).fits)) k }
+    record { value = sym (judged_kept _ _ k); same = refl; listed = listed_events_of bs (λ i. omega (arith, (c.type_inv.bytes i).fits)) k }

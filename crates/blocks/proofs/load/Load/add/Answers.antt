@@ -10,8 +10,8 @@ returns c =
     let m = c.args.self.now.memory.now in
     let n = c.args.self.now.held in
     let r = c.args.bytes.now in
-    let k : Kept (add_rules m n r) = kept_from_ok _ _ _ (sym c.append.ensures.value ∙ c.in-ok-append.was) in
-    let a = rw c.in-ok-append.was at c.append.ensures.after in
+    let k : Kept (add_rules m n r) = kept_from_ok _ _ _ (sym c.append.ensures.value ∙ c.in_ok-append.was) in
+    let a = rw c.in_ok-append.was at c.append.ensures.after in
     record {
       value = sym (judged_kept _ _ k);
       after = a;

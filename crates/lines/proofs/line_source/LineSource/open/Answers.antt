@@ -12,44 +12,44 @@ use Rattle.lines.proofs.Orders.{only_one, timetable}
 use Rattle.lines.proofs.Timetables.{events_on-table, length-events, length-table, ordered_events, within_events}
 use Rattle.lines.proofs.line_source.LineSource.open.Goals as goal
 
-pub returns-in-err-total : goal.returns-in-err-total
-returns-in-err-total c =
-    let p = err_from_is_err_and c.from-residual.result c.from-residual.ensures.1 in
-    let b = broken_from_err _ _ _ (sym c.check.ensures ∙ c.in-err-total.was) in
+pub returns-in_err-total : goal.returns-in_err-total
+returns-in_err-total c =
+    let p = err_from_is_err_and c.from_residual.result c.from_residual.ensures.1 in
+    let b = broken_from_err _ _ _ (sym c.check.ensures ∙ c.in_err-total.was) in
     record { value = rw (p.1, p.2) b; only = only_one }
 
 pub begin-requires : goal.begin-requires
 begin-requires c =
     let bs = c.args.bytes.now in
-    let k = kept_from_ok _ _ _ (sym c.check.ensures ∙ c.in-ok-total.was) in
-    let e = c.table-of-lines.ensures in
+    let k = kept_from_ok _ _ _ (sym c.check.ensures ∙ c.in_ok-total.was) in
+    let e = c.table_of-lines.ensures in
     record {
       all = ap length e ∙ length-table (lines_of bs) (few_lines bs k);
       fits =
           λ n.
           subst (λ ls. beyond (cursor_of (get_or ls n no_line)) < 4294967296) (sym e)
-          (fits_table bs k (λ i. omega (arith, (c.type-inv.bytes i).fits)) n);
+          (fits_table bs k (λ i. omega (arith, (c.type_inv.bytes i).fits)) n);
     }
 
 pub invariant-of-result : goal.invariant-of-result
 invariant-of-result c =
     let bs = c.args.bytes.now in
-    let small : (i : ℕ) → get_or bs i 0 < 256 = λ i. omega (arith, (c.type-inv.bytes i).fits) in
-    let k = kept_from_ok _ _ _ (sym c.check.ensures ∙ c.in-ok-total.was) in
-    let v = value_from_ok _ _ _ (sym c.check.ensures ∙ c.in-ok-total.was) in
-    let e = c.table-of-lines.ensures in
-    let es : events_on (lines_of bs) ≡ events_on c.table-of-lines.result = sym (ap events_on e ∙ events_on-table (lines_of bs)) in
-    let n : rides_of (lines_of bs) ≡ length (events_on c.table-of-lines.result) = sym (length-events (lines_of bs)) ∙ ap length es in
-    let within : All Within (events_on c.table-of-lines.result) = subst (All Within) es (within_events (lines_of bs) (regular_lines bs k small)) in (
+    let small : (i : ℕ) → get_or bs i 0 < 256 = λ i. omega (arith, (c.type_inv.bytes i).fits) in
+    let k = kept_from_ok _ _ _ (sym c.check.ensures ∙ c.in_ok-total.was) in
+    let v = value_from_ok _ _ _ (sym c.check.ensures ∙ c.in_ok-total.was) in
+    let e = c.table_of-lines.ensures in
+    let es : events_on (lines_of bs) ≡ events_on c.table_of-lines.result = sym (ap events_on e ∙ events_on-table (lines_of bs)) in
+    let n : rides_of (lines_of bs) ≡ length (events_on c.table_of-lines.result) = sym (length-events (lines_of bs)) ∙ ap length es in
+    let within : All Within (events_on c.table_of-lines.result) = subst (All Within) es (within_events (lines_of bs) (regular_lines bs k small)) in (
       ap length e ∙ length-table (lines_of bs) (few_lines bs k),
       (
         sym v ∙ n,
         (
           omega (arith, n, few_in_all bs k),
           (
-            tests_within (events_on c.table-of-lines.result) within,
+            tests_within (events_on c.table_of-lines.result) within,
             (
-              ordered_events c.table-of-lines.result,
+              ordered_events c.table_of-lines.result,
               (
                 λ i. subst (λ ls. beyond (cursor_of (get_or ls i no_line)) < 4294967296) (sym e) (fits_table bs k small i),
                 (
@@ -66,12 +66,12 @@ invariant-of-result c =
 pub returns : goal.returns
 returns c =
     let bs = c.args.bytes.now in
-    let k = kept_from_ok _ _ _ (sym c.check.ensures ∙ c.in-ok-total.was) in
+    let k = kept_from_ok _ _ _ (sym c.check.ensures ∙ c.in_ok-total.was) in
     record {
       value =
           record {
             kept = k;
-            rides = subst (Timetable (lines_of bs)) (sym (ap events_on c.table-of-lines.ensures ∙ events_on-table (lines_of bs))) (timetable (lines_of bs));
+            rides = subst (Timetable (lines_of bs)) (sym (ap events_on c.table_of-lines.ensures ∙ events_on-table (lines_of bs))) (timetable (lines_of bs));
             start = refl;
           };
       only = only_one;

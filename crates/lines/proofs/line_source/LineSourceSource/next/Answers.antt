@@ -7,22 +7,22 @@ use Rattle.lines.proofs.Orders.{drawn_rest, more_behind, sorted_rising}
 use Rattle.lines.proofs.Timetables.{reads_none, reads_one}
 use Rattle.lines.proofs.line_source.LineSourceSource.next.Goals as goal
 
-pub returns-in-err-departure : goal.returns-in-err-departure
-returns-in-err-departure c =
+pub returns-in_err-departure : goal.returns-in_err-departure
+returns-in_err-departure c =
     let s = c.args.self.now in
     let ls = s.lines in
-    let d = c.in-err-departure.ensures in
-    subst (λ o. Reading (events_on ls) s.place o (events_on ls) s.place) (sym c.from-residual.ensures)
-    (reads_none ls s.place (lefts s.merge.cursors.table) (lefts c.next-departure.new.self.cursors.table) s.left s.reached d.0)
+    let d = c.in_err-departure.ensures in
+    subst (λ o. Reading (events_on ls) s.place o (events_on ls) s.place) (sym c.from_residual.ensures)
+    (reads_none ls s.place (lefts s.merge.cursors.table) (lefts c.next_departure.new.self.cursors.table) s.left s.reached d.0)
 
 pub invariant-of-self-2 : goal.invariant-of-self-2
 invariant-of-self-2 c =
     let s = c.args.self.now in
     let ls = s.lines in
     let left = lefts s.merge.cursors.table in
-    let left' = lefts c.next-departure.new.self.cursors.table in
-    let x = c.in-ok-departure.departure in
-    let d = c.in-ok-departure.ensures in
+    let left' = lefts c.next_departure.new.self.cursors.table in
+    let x = c.in_ok-departure.departure in
+    let d = c.in_ok-departure.ensures in
     let h = more_behind (departures ls) left left' s.place (sorted_rising (runs ls)) s.left x d in (
       s.all,
       (
@@ -50,6 +50,6 @@ pub returns : goal.returns
 returns c =
     let s = c.args.self.now in
     let ls = s.lines in
-    subst (λ e. Reading (events_on ls) s.place (Some e) (events_on ls) (s.place + 1)) (sym c.ride-on.ensures)
-    (reads_one ls s.place (lefts s.merge.cursors.table) (lefts c.next-departure.new.self.cursors.table) s.left
-    c.in-ok-departure.departure c.in-ok-departure.ensures)
+    subst (λ e. Reading (events_on ls) s.place (Some e) (events_on ls) (s.place + 1)) (sym c.ride_on.ensures)
+    (reads_one ls s.place (lefts s.merge.cursors.table) (lefts c.next_departure.new.self.cursors.table) s.left
+    c.in_ok-departure.departure c.in_ok-departure.ensures)

@@ -10,7 +10,7 @@ returns c =
     record {
       same = refl;
       item =
-          c.event-in-read.ensures
+          c.event_in-read.ensures
           ∙ slice_get-filled s.table s.count s.place blank (omega (arith, s.size, length-take s.count s.table));
       step = omega (arith, c.min-self.ensures, s.size);
     }

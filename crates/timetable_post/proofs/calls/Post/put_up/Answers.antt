@@ -6,4 +6,4 @@ use Rattle.timetable_post.proofs.calls.Post.put_up.Goals as goal
 pub returns : goal.returns
 returns g c =
     let es = g.S.Source.events c.args.source in
-    record { source = refl; marks = c.all-in-force.ensures; day = subst (Explains es []) (sym c.all-in-force.ensures) (explains_new es) }
+    record { source = refl; marks = c.all_in_force.ensures; day = subst (Explains es []) (sym c.all_in_force.ensures) (explains_new es) }

@@ -7,8 +7,8 @@ pub returns : goal.returns
 returns g c =
     let post = c.args.self.now in
     record {
-      does = (c.count-set.ensures, refl);
+      does = (c.count_set.ensures, refl);
       day =
-          carries_on (g.S.Source.events post.source) (g.S.Source.listed post.source).few post.marks (tallied c.count-set.result) post.marks
-          (c.count-set.ensures, refl);
+          carries_on (g.S.Source.events post.source) (g.S.Source.listed post.source).few post.marks (tallied c.count_set.result) post.marks
+          (c.count_set.ensures, refl);
     }
