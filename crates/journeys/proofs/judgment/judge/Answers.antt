@@ -16,8 +16,8 @@ returns-then-not-meets g c =
     (fits_asked es (in_force c.args.marks.now) c.args.query js _ _ _ some c.event_numbered-first.ensures c.event_numbered-last.ensures
     c.add_up-totals.ensures f))
 
-pub overflow-cast-result : goal.overflow-cast-result
-overflow-cast-result g c =
+pub overflow_cast-result : goal.overflow_cast-result
+overflow_cast-result g c =
     let js = c.args.steps.now in
     let some : 0 < length js = omega arith in
     let b =

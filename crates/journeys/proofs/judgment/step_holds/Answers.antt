@@ -11,10 +11,10 @@ returns-then-not-is_known c =
       (λ n. absurd (next_unknown c.args.events.now (in_force c.args.marks.now) c.args.steps.now c.args.place c.requires e n)),
     )
 
-pub returns-then-place_steps : goal.returns-then-place_steps
-returns-then-place_steps c =
+pub returns-then-place-steps : goal.returns-then-place-steps
+returns-then-place-steps c =
     let e = sym c.is_known.ensures ∙ c.if-not-is_known.false in (
-      (λ t. next_last c.args.events.now (in_force c.args.marks.now) c.args.steps.now c.args.place c.requires e c.if-place_steps.true),
+      (λ t. next_last c.args.events.now (in_force c.args.marks.now) c.args.steps.now c.args.place c.requires e c.if-place-steps.true),
       (λ n. refl),
     )
 
@@ -22,4 +22,4 @@ pub returns : goal.returns
 returns c =
     let e = sym c.is_known.ensures ∙ c.if-not-is_known.false in
     next_more c.args.events.now (in_force c.args.marks.now) c.args.steps.now c.args.place c.requires c.goes_on.result e
-    c.if-place_steps.false c.goes_on.ensures
+    c.if-place-steps.false c.goes_on.ensures

@@ -22,8 +22,8 @@ loop-event-preserved g c =
 pub loop-event-smaller : goal.loop-event-smaller
 loop-event-smaller g c = reading_falls _ _ c.in-Some.event _ _ c.in-Some.ensures
 
-pub overflow-add-number : goal.overflow-add-number
-overflow-add-number g c =
+pub overflow_add-number : goal.overflow_add-number
+overflow_add-number g c =
     omega (
       arith,
       (g.S.Source.listed c.rewind.new.self).few,

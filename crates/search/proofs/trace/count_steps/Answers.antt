@@ -7,8 +7,8 @@ use Rattle.search.proofs.trace.count_steps.Goals as goal
 earlier : (g : given.Over) (c : goal.In-Some g) → c.in-Some.before.event < c.loop-before.stage.event
 earlier g c = before_earlier c.args.log.now c.loop-before.stage c.in-Some.before c.requires.0 (sym c.in-Some.ensures)
 
-pub overflow-add-count : goal.overflow-add-count
-overflow-add-count g c = omega (arith, earlier g c, c.loop-before.invariant.0, c.requires.1)
+pub overflow_add-count : goal.overflow_add-count
+overflow_add-count g c = omega (arith, earlier g c, c.loop-before.invariant.0, c.requires.1)
 
 pub loop-before-smaller : goal.loop-before-smaller
 loop-before-smaller g c = earlier g c

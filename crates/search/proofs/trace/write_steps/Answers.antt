@@ -7,8 +7,8 @@ pub loop-next-init : goal.loop-next-init
 loop-next-init g c =
     writing_none (view c.args.log.now) c.args.last c.args.steps.now c.requires.0.0 c.args.count c.requires.0.1 c.requires.0.2 c.requires.1
 
-pub overflow-sub-place : goal.overflow-sub-place
-overflow-sub-place g c = writing_place c.loop-next.invariant c.in-Some.is
+pub overflow_sub-place : goal.overflow_sub-place
+overflow_sub-place g c = writing_place c.loop-next.invariant c.in-Some.is
 
 pub write_step-requires : goal.write_step-requires
 write_step-requires g c = omega (arith, writing_place c.loop-next.invariant c.in-Some.is, c.loop-next.invariant.room)
