@@ -33,8 +33,8 @@ fn counted(counts: Counts, event: Event) -> Counts
 
 // Reads a source from its start to its end, wherever it stands, and counts its events.
 pub fn read_through<S: Source>(source: &mut S) -> Counts
-    ensures through { ReadThrough (events source.old) result (events source.new) (place source.new) }
-    ensures repeats { Repeats (events source.old) (place source.old) }
+    ensures through { ReadThrough (S.events source.old) result (S.events source.new) (S.place source.new) }
+    ensures repeats { Repeats (S.events source.old) (S.place source.old) }
 {
     source.rewind();
     let mut counts = Counts {

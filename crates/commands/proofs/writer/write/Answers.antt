@@ -3,8 +3,8 @@ use native.Mathlib.Nat.{sub-zero}
 use Rattle.commands.proofs.Placing.{short_texts, written}
 use Rattle.commands.proofs.writer.write.Goals as goal
 
-pub slice-bounds-copy_from_slice-end-2 : goal.slice-bounds-copy_from_slice-end-2
-slice-bounds-copy_from_slice-end-2 c = omega (arith, short_texts c.args.command c.if-not-is_valid.ensures)
+pub slice_bounds-copy_from_slice-end-2 : goal.slice_bounds-copy_from_slice-end-2
+slice_bounds-copy_from_slice-end-2 c = omega (arith, short_texts c.args.command c.if-not-is_valid.ensures)
 
 pub returns : goal.returns
 returns c =

@@ -31,8 +31,8 @@ begin-requires c =
           (fits_table bs k (λ i. omega (arith, (c.type_inv.bytes i).fits)) n);
     }
 
-pub invariant-of-result : goal.invariant-of-result
-invariant-of-result c =
+pub invariant_of-result : goal.invariant_of-result
+invariant_of-result c =
     let bs = c.args.bytes.now in
     let small : (i : ℕ) → get_or bs i 0 < 256 = λ i. omega (arith, (c.type_inv.bytes i).fits) in
     let k = kept_from_ok _ _ _ (sym c.check.ensures ∙ c.in_ok-total.was) in

@@ -15,8 +15,8 @@ returns-in_err-departure c =
     subst (λ o. Reading (events_on ls) s.place o (events_on ls) s.place) (sym c.from_residual.ensures)
     (reads_none ls s.place (lefts s.merge.cursors.table) (lefts c.next_departure.new.self.cursors.table) s.left s.reached d.0)
 
-pub invariant-of-self-2 : goal.invariant-of-self-2
-invariant-of-self-2 c =
+pub invariant_of-self-2 : goal.invariant_of-self-2
+invariant_of-self-2 c =
     let s = c.args.self.now in
     let ls = s.lines in
     let left = lefts s.merge.cursors.table in

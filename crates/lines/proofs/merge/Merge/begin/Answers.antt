@@ -8,8 +8,8 @@ use Rattle.lines.proofs.Gathers.{gather-map}
 use Rattle.lines.proofs.Orders.{sorted_shuffled}
 use Rattle.lines.proofs.merge.Merge.begin.Goals as goal
 
-pub invariant-of-result : goal.invariant-of-result
-invariant-of-result c =
+pub invariant_of-result : goal.invariant_of-result
+invariant_of-result c =
     let ls = c.args.lines.now in
     let e = c.of-cursors.ensures in
     let f = c.put_all.ensures in

@@ -22,8 +22,8 @@ advance-following-requires c =
     let ride : 0 < at.left = (next_parts x.line at.minute at.interval at.left x f.1).0 in
     record { all = s.all; known = omega (arith, f.0, s.all); ride = ride; fits = omega (arith, next_fits at ride, s.fits x.line) }
 
-pub invariant-of-self-2 : goal.invariant-of-self-2
-invariant-of-self-2 c =
+pub invariant_of-self-2 : goal.invariant_of-self-2
+invariant_of-self-2 c =
     let s = c.args.self.now in
     let cs = s.cursors.table in
     let x = c.in_ok-departure.departure in
