@@ -40,28 +40,17 @@ invariant_of-result c =
     let e = c.table_of-lines.ensures in
     let es : events_on (lines_of bs) ≡ events_on c.table_of-lines.result = sym (ap events_on e ∙ events_on-table (lines_of bs)) in
     let n : rides_of (lines_of bs) ≡ length (events_on c.table_of-lines.result) = sym (length-events (lines_of bs)) ∙ ap length es in
-    let within : All Within (events_on c.table_of-lines.result) = subst (All Within) es (within_events (lines_of bs) (regular_lines bs k small)) in (
-      ap length e ∙ length-table (lines_of bs) (few_lines bs k),
-      (
-        sym v ∙ n,
-        (
-          omega (arith, n, few_in_all bs k),
-          (
-            tests_within (events_on c.table_of-lines.result) within,
-            (
-              ordered_events c.table_of-lines.result,
-              (
-                λ i. subst (λ ls. beyond (cursor_of (get_or ls i no_line)) < 4294967296) (sym e) (fits_table bs k small i),
-                (
-                  omega arith,
-                  (c.begin.ensures, tt),
-                ),
-              ),
-            ),
-          ),
-        ),
-      ),
-    )
+    let within : All Within (events_on c.table_of-lines.result) = subst (All Within) es (within_events (lines_of bs) (regular_lines bs k small)) in
+    record {
+      all = ap length e ∙ length-table (lines_of bs) (few_lines bs k);
+      size = sym v ∙ n;
+      few = omega (arith, n, few_in_all bs k);
+      within = tests_within (events_on c.table_of-lines.result) within;
+      ordered = ordered_events c.table_of-lines.result;
+      fits = λ i. subst (λ ls. beyond (cursor_of (get_or ls i no_line)) < 4294967296) (sym e) (fits_table bs k small i);
+      reached = omega arith;
+      left = c.begin.ensures;
+    }
 
 pub returns : goal.returns
 returns c =

@@ -23,28 +23,17 @@ invariant_of-self-2 c =
     let left' = lefts c.next_departure.new.self.cursors.table in
     let x = c.in_ok-departure.departure in
     let d = c.in_ok-departure.ensures in
-    let h = more_behind (departures ls) left left' s.place (sorted_rising (runs ls)) s.left x d in (
-      s.all,
-      (
-        s.size,
-        (
-          s.few,
-          (
-            s.within,
-            (
-              s.ordered,
-              (
-                s.fits,
-                (
-                  omega (arith, h, length-map (departures ls) (ride_on ls)),
-                  (drawn_rest (departures ls) left left' s.place (sorted_rising (runs ls)) s.left x d, tt),
-                ),
-              ),
-            ),
-          ),
-        ),
-      ),
-    )
+    let h = more_behind (departures ls) left left' s.place (sorted_rising (runs ls)) s.left x d in
+    record {
+      all = s.all;
+      size = s.size;
+      few = s.few;
+      within = s.within;
+      ordered = s.ordered;
+      fits = s.fits;
+      reached = omega (arith, h, length-map (departures ls) (ride_on ls));
+      left = drawn_rest (departures ls) left left' s.place (sorted_rising (runs ls)) s.left x d;
+    }
 
 pub returns : goal.returns
 returns c =

@@ -14,22 +14,15 @@ invariant_of-result c =
     let e = c.of-cursors.ensures in
     let f = c.put_all.ensures in
     let all : length c.of-cursors.result.table ≡ 32 = ap length e ∙ length-map ls cursor_of ∙ c.requires.all in
-    let room : c.put_all.new.used ≤ 32 = omega (arith, f.count) in (
-      all,
-      (
-        f.long,
-        (
-          room,
-          (
-            parents_from_heaped c.put_all.new.slots c.put_all.new.used (omega (arith, f.long)) f.heaped,
-            (
-              f.bag,
-              (λ k. subst (λ d. beyond d < 4294967296) (sym (ap (λ l. get_or l k no_cursor) e ∙ cursor_at ls k)) (c.requires.fits k), tt),
-            ),
-          ),
-        ),
-      ),
-    )
+    let room : c.put_all.new.used ≤ 32 = omega (arith, f.count) in
+    record {
+      all = all;
+      long = f.long;
+      room = room;
+      heaped = parents_from_heaped c.put_all.new.slots c.put_all.new.used (omega (arith, f.long)) f.heaped;
+      bag = f.bag;
+      fits = λ k. subst (λ d. beyond d < 4294967296) (sym (ap (λ l. get_or l k no_cursor) e ∙ cursor_at ls k)) (c.requires.fits k);
+    }
 
 pub returns : goal.returns
 returns c =

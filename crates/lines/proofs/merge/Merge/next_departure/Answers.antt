@@ -36,28 +36,18 @@ invariant_of-self-2 c =
     let after = c.advance-following.ensures.after in
     let heaped : Heaped before (held s.slots s.used) = heaped_from_parents s.slots s.used (omega (arith, s.long, s.room)) s.heaped in
     let long : length c.put_next.new.slots ≡ 32 = q.long ∙ t.long ∙ s.long in
-    let room : c.put_next.new.used ≤ 32 = omega (arith, q.count, t.count, s.room) in (
-      ap length after ∙ length-set cs x.line (onward at) ∙ s.all,
-      (
-        long,
-        (
-          room,
-          (
-            parents_from_heaped c.put_next.new.slots c.put_next.new.used (omega arith) (q.heaped (t.heaped heaped)),
-            (
-              queue_bag cs s.slots s.used s.bag x c.take.new.slots c.take.new.used t c.put_next.new.slots c.put_next.new.used
-                  c.advance-following.new.self.table at refl after q,
-              (
-                λ k.
-                    subst (λ l. beyond (get_or l k no_cursor) < 4294967296) (sym after)
-                    (beyond-set cs x.line (onward at) f.0 (omega (arith, beyond-onward at ride, s.fits x.line)) s.fits k),
-                tt,
-              ),
-            ),
-          ),
-        ),
-      ),
-    )
+    let room : c.put_next.new.used ≤ 32 = omega (arith, q.count, t.count, s.room) in
+    record {
+      all = ap length after ∙ length-set cs x.line (onward at) ∙ s.all;
+      long = long;
+      room = room;
+      heaped = parents_from_heaped c.put_next.new.slots c.put_next.new.used (omega arith) (q.heaped (t.heaped heaped));
+      bag = queue_bag cs s.slots s.used s.bag x c.take.new.slots c.take.new.used t c.put_next.new.slots c.put_next.new.used
+          c.advance-following.new.self.table at refl after q;
+      fits = λ k.
+          subst (λ l. beyond (get_or l k no_cursor) < 4294967296) (sym after)
+          (beyond-set cs x.line (onward at) f.0 (omega (arith, beyond-onward at ride, s.fits x.line)) s.fits k);
+    }
 
 pub returns : goal.returns
 returns c =
