@@ -45,8 +45,8 @@ pub(crate) fn read_up<S: Source, M: Measure>(
     board: &mut [Option<Standing<M::Label>>],
     queue: &mut [Arrival],
 ) -> usize
-    requires { (Cleared log.old) × ((Cleared board.old) × ((length (events source.old) * 2 ≤ length log.old) × ((512 ≤ length board.old) × (length (events source.old) * 2 ≤ length queue.old)))) }
-    ensures { ReadUp M.Measure.ops (events source.old) (in_force marks.now) query log.new result (events source.new) (place source.new) }
+    requires { (Cleared log.old) × ((Cleared board.old) × ((length (S.events source.old) * 2 ≤ length log.old) × ((512 ≤ length board.old) × (length (S.events source.old) * 2 ≤ length queue.old)))) }
+    ensures { ReadUp M.Measure.ops (S.events source.old) (in_force marks.now) query log.new result (S.events source.new) (S.place source.new) }
 {
     source.rewind();
     let mut used = 0;
