@@ -47,7 +47,7 @@ fn find<S: Source + Drop>(
     queue: &mut [Arrival],
     steps: &mut [usize],
 ) -> Reply
-    ensures { Obeys events place (desk post.old.source post.old.marks log.old board.old trip_log.old trip_board.old queue.old steps.old) (Command.Find criterion query) result (desk post.new.source post.new.marks log.new board.new trip_log.new trip_board.new queue.new steps.new) }
+    ensures { Obeys S.events S.place (desk post.old.source post.old.marks log.old board.old trip_log.old trip_board.old queue.old steps.old) (Command.Find criterion query) result (desk post.new.source post.new.marks log.new board.new trip_log.new trip_board.new queue.new steps.new) }
 {
     six_measures_are_plain();
     let answer = match criterion {
@@ -76,7 +76,7 @@ fn obey<S: Source + Drop>(
     queue: &mut [Arrival],
     steps: &mut [usize],
 ) -> Reply
-    ensures { Obeys events place (desk post.old.source post.old.marks log.old board.old trip_log.old trip_board.old queue.old steps.old) command result (desk post.new.source post.new.marks log.new board.new trip_log.new trip_board.new queue.new steps.new) }
+    ensures { Obeys S.events S.place (desk post.old.source post.old.marks log.old board.old trip_log.old trip_board.old queue.old steps.old) command result (desk post.new.source post.new.marks log.new board.new trip_log.new trip_board.new queue.new steps.new) }
 {
     match command {
         Command::Withdraw { event } => notice_reply(post.withdraw(event as usize)),
@@ -100,7 +100,7 @@ pub fn answer<S: Source + Drop>(
     queue: &mut [Arrival],
     steps: &mut [usize],
 ) -> Reply
-    ensures { Interprets events place (desk post.old.source post.old.marks log.old board.old trip_log.old trip_board.old queue.old steps.old) line.now result (desk post.new.source post.new.marks log.new board.new trip_log.new trip_board.new queue.new steps.new) }
+    ensures { Interprets S.events S.place (desk post.old.source post.old.marks log.old board.old trip_log.old trip_board.old queue.old steps.old) line.now result (desk post.new.source post.new.marks log.new board.new trip_log.new trip_board.new queue.new steps.new) }
 {
     match parse(line) {
         Ok(command) => obey(

@@ -26,7 +26,7 @@ impl<S: Source + Drop> Post<S> {
     pub fn put_up(source: S) -> Post<S>
         ensures source { result.source ≡ source }
         ensures marks { result.marks ≡ replicate 1024 false }
-        ensures day { Explains (events source) [] result.marks }
+        ensures day { Explains (S.events source) [] result.marks }
     {
         Post {
             source,
@@ -44,9 +44,9 @@ impl<S: Source + Drop> Post<S> {
 
     // Sets or takes away the mark of an event; refuses where there is no such event, and where the mark is so already.
     fn note(&mut self, event: usize, out: bool) -> Result<(), Fault>
-        ensures does { Does (events self.old.source) self.old.marks (noticed (notice_of out) event result) self.new.marks }
+        ensures does { Does (S.events self.old.source) self.old.marks (noticed (notice_of out) event result) self.new.marks }
         ensures source { self.new.source ≡ self.old.source }
-        ensures day { CarriesOn (events self.old.source) self.old.marks (noticed (notice_of out) event result) self.new.marks }
+        ensures day { CarriesOn (S.events self.old.source) self.old.marks (noticed (notice_of out) event result) self.new.marks }
     {
         if event >= self.source.size() {
             return Err(Fault::UnknownEvent { place: event });
@@ -60,26 +60,26 @@ impl<S: Source + Drop> Post<S> {
 
     // Puts an event out of force; refuses with 12 where there is no such event, and with 13 where it is out of force.
     pub fn withdraw(&mut self, event: usize) -> Result<(), Fault>
-        ensures does { Does (events self.old.source) self.old.marks (noticed withdrawal event result) self.new.marks }
+        ensures does { Does (S.events self.old.source) self.old.marks (noticed withdrawal event result) self.new.marks }
         ensures source { self.new.source ≡ self.old.source }
-        ensures day { CarriesOn (events self.old.source) self.old.marks (noticed withdrawal event result) self.new.marks }
+        ensures day { CarriesOn (S.events self.old.source) self.old.marks (noticed withdrawal event result) self.new.marks }
     {
         self.note(event, true)
     }
 
     // Puts an event back in force; refuses with 12 where there is no such event, and with 13 where it is in force.
     pub fn reinstate(&mut self, event: usize) -> Result<(), Fault>
-        ensures does { Does (events self.old.source) self.old.marks (noticed reinstatement event result) self.new.marks }
+        ensures does { Does (S.events self.old.source) self.old.marks (noticed reinstatement event result) self.new.marks }
         ensures source { self.new.source ≡ self.old.source }
-        ensures day { CarriesOn (events self.old.source) self.old.marks (noticed reinstatement event result) self.new.marks }
+        ensures day { CarriesOn (S.events self.old.source) self.old.marks (noticed reinstatement event result) self.new.marks }
     {
         self.note(event, false)
     }
 
     // How many events are out of force.
     pub fn tally(&self) -> usize
-        ensures does { Does (events self.now.source) self.now.marks (tallied result) self.now.marks }
-        ensures day { CarriesOn (events self.now.source) self.now.marks (tallied result) self.now.marks }
+        ensures does { Does (S.events self.now.source) self.now.marks (tallied result) self.now.marks }
+        ensures day { CarriesOn (S.events self.now.source) self.now.marks (tallied result) self.now.marks }
     {
         count_set(&self.marks)
     }
@@ -95,7 +95,7 @@ impl<S: Source + Drop> Post<S> {
         queue: &mut [Arrival],
         steps: &mut [usize],
     ) -> Result<Answer, Fault>
-        ensures { Queried M.Measure.ops events place query (handed self.old.source self.old.marks log.old board.old queue.old steps.old) result (handed self.new.source self.new.marks log.new board.new queue.new steps.new) }
+        ensures { Queried M.Measure.ops S.events S.place query (handed self.old.source self.old.marks log.old board.old queue.old steps.old) result (handed self.new.source self.new.marks log.new board.new queue.new steps.new) }
     {
         ask::<S, M>(
             &mut self.source,

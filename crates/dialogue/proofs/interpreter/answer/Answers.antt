@@ -25,5 +25,5 @@ returns-in-Err g c =
     record {
       obeys = λ command spells. absurd (refused.none command spells);
       refuses = λ f r. (ap Refused (one_refusal c.args.line.now c.in-Err.fault f refused r), refl);
-      short = unknown_line_short refused.place c.args.steps.now c.in-Err.fault (omega (arith, refused.within, c.well-formed)) refused.told;
+      short = unknown_line_short refused.place c.args.steps.now c.in-Err.fault (omega (arith, refused.within, c.well_formed)) refused.told;
     }

@@ -6,7 +6,7 @@ use Rattle.timetable_post.proofs.marks.count_set.Goals as goal
 pub counted-count-requires : goal.counted-count-requires
 counted-count-requires c =
     let seen = take c.loop-mark.mark-index c.args.marks.now in
-    omega (arith, c.loop-mark.invariant, count_by-le-length (λ b. b) seen, length-take c.loop-mark.mark-index c.args.marks.now, c.well-formed)
+    omega (arith, c.loop-mark.invariant, count_by-le-length (λ b. b) seen, length-take c.loop-mark.mark-index c.args.marks.now, c.well_formed)
 
 pub loop-mark-preserved : goal.loop-mark-preserved
 loop-mark-preserved c =
