@@ -139,7 +139,7 @@ mod tests {
         assert_eq!(rt; added(&mut load, &GOOD[0..17]), (1, 1, 2));
         assert_eq!(rt; load.finish(), 2);
         assert_eq!(rt; &memory[0..32], &GOOD[16..48]);
-        assert_eq!(rt; &memory[32..40], &[170u8; 8]);
+        assert_eq!(rt; &memory[32..40], [170u8; 8].as_slice());
         assert_eq!(rt; opened(&memory[0..32]), (0, 0, 2));
     }
 

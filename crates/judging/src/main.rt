@@ -121,9 +121,14 @@ fn mark(day: &mut Day, number: u32) -> anyhow::Result<()> {
     Ok(())
 }
 
+// Judges the list that a line's numbers ask for.
+fn judge_line(rt: &HostRuntime, day: &Day, numbers: &[u32]) -> anyhow::Result<()> {
+    let steps = steps(rt.alloc(), numbers)?;
+    print_judgment(rt, day, query(numbers)?, &steps)
+}
+
 fn answer(rt: &HostRuntime, day: &mut Day, line: &str) -> anyhow::Result<()> {
-    let heap = rt.alloc();
-    let numbers = numbers(heap, line)?;
+    let numbers = numbers(rt.alloc(), line)?;
     match line.as_bytes().first().copied() {
         Some(b'd') => {
             day.events.clear();
@@ -132,7 +137,7 @@ fn answer(rt: &HostRuntime, day: &mut Day, line: &str) -> anyhow::Result<()> {
         Some(b'o') => day.events.push(opening(&numbers)?)?,
         Some(b'r') => day.events.push(ride(&numbers)?)?,
         Some(b'x') => mark(day, number(&numbers, 0)?)?,
-        Some(b'j') => print_judgment(rt, day, query(&numbers)?, &steps(heap, &numbers)?)?,
+        Some(b'j') => judge_line(rt, day, &numbers)?,
         _ => return Err(anyhow!("a line begins with no known letter")),
     }
     Ok(())

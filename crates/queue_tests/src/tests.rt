@@ -65,7 +65,7 @@ fn agrees_on_put(
         return Ok(());
     }
     sorted.push(item)?;
-    sorted.sort();
+    sorted.sort()?;
     assert_eq!(rt; answer, Ok(()));
     Ok(())
 }
@@ -124,7 +124,7 @@ fn sorts(rt: HostRuntime) -> Result<(), Fail> {
             items.push(Item::random(&mut random))?;
         }
         let mut expected = items.clone()?;
-        expected.sort();
+        expected.sort()?;
         sort(&mut items);
         assert_eq!(rt; items, expected);
     }
