@@ -1,14 +1,10 @@
-// Takes the worked day through records, a load and a source, beside two lines, shows what a damaged copy meets, and judges and
-// finds its best journeys.
-mod found;
-
+// Takes the worked day through records, a load and a source, beside two lines, shows what a damaged copy meets, and judges its best journeys.
 ghost use Rattle.std.specs.Prelude.{map, IfOk};
 ghost use Rattle.blocks.specs.Loads.{Filled};
 ghost use Rattle.records.specs.Layout.{layout};
 
 use blocks::{Block, Load};
 use faults::Fault;
-use found::print_searches;
 use journeys::{Query, Verdict, judge};
 use lines::LineSource;
 use measures::{
@@ -121,21 +117,6 @@ fn asking(call: bool) -> Query {
     }
 }
 
-// Prints a journey and what is said of it, without a line end.
-fn print_verdict(rt: &impl Print, steps: &[usize], verdict: Verdict) -> io::Result<()> {
-    let Verdict {
-        begin,
-        end,
-        riding,
-        rides,
-        score,
-    } = verdict;
-    let (first, second) = score;
-    print!(rt;
-        "{steps:?} from {begin} to {end}, riding {riding}, rides {rides}, score ({first}; {second})"
-    )
-}
-
 // Judges a journey of the worked day, with every event in force, and prints it with its score.
 fn print_journey<M: Measure>(
     rt: &impl Print,
@@ -146,9 +127,17 @@ fn print_journey<M: Measure>(
     let Some(verdict) = judge::<M>(&worked_events(), &[], query, steps) else {
         return println!(rt; "{title}: {steps:?} does not fit");
     };
-    print!(rt; "{title}: ")?;
-    print_verdict(rt, steps, verdict)?;
-    println!(rt; "")
+    let Verdict {
+        begin,
+        end,
+        riding,
+        rides,
+        score,
+    } = verdict;
+    let (first, second) = score;
+    println!(rt;
+        "{title}: {steps:?} from {begin} to {end}, riding {riding}, rides {rides}, score ({first}; {second})"
+    )
 }
 
 fn print_journeys(rt: &impl Print) -> io::Result<()> {
@@ -163,7 +152,7 @@ fn print_journeys(rt: &impl Print) -> io::Result<()> {
     print_journey::<EarliestArrival>(rt, "e", asking(false), &[4, 2])
 }
 
-fn run(rt: &HostRuntime) -> io::Result<()> {
+fn run(rt: &impl Print) -> io::Result<()> {
     let mut memory = [0u8; MEMORY_BYTES];
     let count = match store(&mut memory, &worked_events()) {
         Ok(count) => count,
@@ -172,10 +161,8 @@ fn run(rt: &HostRuntime) -> io::Result<()> {
     println!(rt; "{count} records")?;
     let end = count.saturating_mul(RECORD_BYTES).min(MEMORY_BYTES);
     print_sources(rt, &memory[0..end])?;
-    let mut copy = memory;
-    print_damaged(rt, &mut copy[0..end], 7, 106)?;
-    print_journeys(rt)?;
-    print_searches(rt, &memory[0..end])
+    print_damaged(rt, &mut memory[0..end], 7, 106)?;
+    print_journeys(rt)
 }
 
 fn main(rt: HostRuntime) -> io::Result<()> {

@@ -1,15 +1,17 @@
-// Searches over the worked day, in tables that are exactly long enough for it.
-use crate::{asking, print_fault, print_verdict};
-use journeys::Query;
+// Finds the best journeys of the worked day by searches, in tables that are exactly long enough for it.
+use faults::Fault;
+use journeys::{Query, Verdict};
 use measures::{
     EarliestArrival, Fastest, FewestRides, LatestDeparture, LeastRiding, LeastWaiting, Measure,
     Trip,
 };
+use records::write;
 use search::{Answer, Carried, CheckedQuery, search};
 use sources::{RecordSource, Source};
 use std::alloc::{AllocError, Global};
 use std::io;
 use steps::{Arrival, Entry, Standing};
+use worked_scores::worked_events;
 
 // One slot of the board for each stop and call state.
 const BOARD_SLOTS: usize = 512;
@@ -50,6 +52,38 @@ impl<L: Copy> Tables<L> {
             steps: filled(heap, events, 0)?,
         })
     }
+}
+
+// From stop 1 to stop 3 within the minutes 100 to 200.
+fn asking(call: bool) -> Query {
+    Query {
+        from: 1,
+        to: 3,
+        open: 100,
+        close: 200,
+        call,
+    }
+}
+
+fn print_fault(rt: &impl Print, fault: Fault) -> io::Result<()> {
+    let report = fault.report();
+    let (number, layer, place) = (report.number, report.layer, report.place);
+    println!(rt; "no {number} {layer} {place}")
+}
+
+// Prints a journey and what is said of it, without a line end.
+fn print_verdict(rt: &impl Print, steps: &[usize], verdict: Verdict) -> io::Result<()> {
+    let Verdict {
+        begin,
+        end,
+        riding,
+        rides,
+        score,
+    } = verdict;
+    let (first, second) = score;
+    print!(rt;
+        "{steps:?} from {begin} to {end}, riding {riding}, rides {rides}, score ({first}; {second})"
+    )
 }
 
 // Prints the journey that an answer names, how many steps it has and how many events were read.
@@ -129,7 +163,7 @@ fn print_within(
 }
 
 // Searches the day's records under each measure, with a call, and within narrower windows.
-pub(crate) fn print_searches(rt: &HostRuntime, bytes: &[u8]) -> io::Result<()> {
+fn print_searches(rt: &HostRuntime, bytes: &[u8]) -> io::Result<()> {
     let mut source = match RecordSource::open(bytes) {
         Ok(source) => source,
         Err(fault) => return print_fault(rt, fault),
@@ -142,4 +176,15 @@ pub(crate) fn print_searches(rt: &HostRuntime, bytes: &[u8]) -> io::Result<()> {
     print_within(rt, &mut source, 110, 155, &mut plain)?;
     print_within(rt, &mut source, 111, 155, &mut plain)?;
     print_within(rt, &mut source, 110, 154, &mut plain)
+}
+
+fn main(rt: HostRuntime) -> io::Result<()> {
+    let mut bytes = Vec::new(rt.alloc());
+    for event in worked_events() {
+        match write(event) {
+            Ok(record) => bytes.extend_from_slice(&record)?,
+            Err(fault) => return print_fault(&rt, fault),
+        }
+    }
+    print_searches(&rt, &bytes)
 }
