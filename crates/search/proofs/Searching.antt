@@ -17,7 +17,7 @@ use Rattle.journeys.proofs.Spans.{journey_span}
 use Rattle.walks.specs.Logs.{Candidate, EndsRightly, Late, Lowest, Traced, fresh, linked}
 use Rattle.walks.specs.Logs as logs
 use Rattle.walks.proofs.Global.{own}
-use Rattle.walks.proofs.Optimal.{log_gives_best, stopping_loses_nothing}
+use Rattle.walks.proofs.Optimal.{entry_fits, gives_best, log_gives_best, stopping_loses_nothing}
 use Rattle.search.specs.declared.carried.Carried.{Carried}
 use Rattle.steps.specs.declared.entry.Entry.{Entry}
 use Rattle.steps.specs.declared.entry.Origin.TheVariants.{After}
@@ -94,9 +94,9 @@ module _ {L : Type 0} (m : Ops L) (laws : Laws m) (es : List Event) (p : ℕ →
         subst (λ t. m.settle e.label t ≼ m.settle k (end_of (numbered es j))) a.1
         (subst (λ t. m.settle e.label e.end ≼ m.settle k t) b.1
         (subst (λ l. m.settle e.label e.end ≼ m.settle l y.0.end) y.2 (h.3 j y.0 d.0 y.1 y.3))) in
-        let w = (log_gives_best m laws es p q (view log) n listed apart read.right late).0 i e.label (origin_of e.origin) r low in
-        let j = w.0 in
-        (j.0, j.1, j.2, sym j.3, a.1 ∙ sym j.4, subst (Least m es p q) (sym j.5) w.1)
+        let j = entry_fits m laws es p q (view log) n listed apart read.right late i e.label (origin_of e.origin) r in
+        let best = gives_best m laws es p q (view log) n listed apart read.right late i e.label (origin_of e.origin) r low in
+        (j.0, j.1, j.2, sym j.3, a.1 ∙ sym j.4, subst (Least m es p q) (sym j.5) best)
 
 -- the score of a journey is the same with what its label carries along
 score_carries : {L : Type 0} (m : Ops L) (es : List Event) (p : ℕ → Bool) (q : Query) → Listed es → (js : List ℕ) → Fits es p q js → score_of (carrying m) es js ≡ score_of m es js

@@ -52,8 +52,8 @@ stopping_loses_nothing es p q listed =
     (late, final_in_time es p q listed n late)
 
 module _ {L : Type 0} (m : Ops L) (laws : Laws m) (es : List Event) (p : ℕ → Bool) (q : Query) (g : Log L) (n : ℕ) (listed : Listed es) (apart : q.from ≡ q.to → ⊥) (right : Right m es p q g n) (late : Late q es n) where
-  -- an entry that ends rightly is a journey that fits
-  entry_fits : (i : ℕ) (l : L) (o : Origin) → EndsRightly m es q g n i l o → (js : List ℕ) × Traced g i q.call js × Fits es p q js × (label_of m es js ≡ l) × (ending es js ≡ end_of (numbered es i)) × (score_of m es js ≡ m.settle l (end_of (numbered es i)))
+  -- an entry that ends rightly is a journey that fits, with the entry's label and end
+  pub entry_fits : (i : ℕ) (l : L) (o : Origin) → EndsRightly m es q g n i l o → (js : List ℕ) × Traced g i q.call js × Fits es p q js × (label_of m es js ≡ l) × (ending es js ≡ end_of (numbered es i)) × (score_of m es js ≡ m.settle l (end_of (numbered es i)))
   entry_fits i l o r =
       let s = spells m laws es p q listed g n right i q.call l o r.0 r.1 in
       let js = s.0 in
@@ -96,7 +96,9 @@ module _ {L : Type 0} (m : Ops L) (laws : Laws m) (es : List Event) (p : ℕ →
 
 pub log_gives_best : {L : Type 0} (m : Ops L) → Laws m → LogGivesBest m
 log_gives_best m laws es p q g n listed apart right late = (
-  (λ i l o r low. (entry_fits m laws es p q g n listed apart right late i l o r, gives_best m laws es p q g n listed apart right late i l o r low)),
+  (λ i l o r low.
+      let x = entry_fits m laws es p q g n listed apart right late i l o r in
+      ((x.0, x.1, x.2, x.5), gives_best m laws es p q g n listed apart right late i l o r low)),
   (λ none i l o r. let x = entry_fits m laws es p q g n listed apart right late i l o r in none x.0 x.2),
   (λ none js f. let x = fits_entry m laws es p q g n listed apart right late js f in none x.0 x.1 x.2 x.3),
 )

@@ -17,8 +17,8 @@
 --     LogIsGlobal m        a right log covers every walk and spells one for each entry
 --     LogGivesBest m       with the events from n on all too late: an entry that ends rightly and has the
 --                          lowest settled score of all that do gives the best score of the journeys that
---                          fit, by a journey that tracing spells and that has the entry's label and end; and no
---                          entry ends rightly exactly where no journey fits
+--                          fit, by a journey that tracing spells; and no entry ends rightly exactly where no
+--                          journey fits
 --     first_late es c      the number of the first event that is later than c, or of events where none is
 --     StoppingLosesNothing     every event from there on is later than q's close, and no journey that fits
 --                          goes on to one of them
@@ -30,8 +30,8 @@ use Rattle.measures.specs.Measures.{Ops, ◌≼◌}
 use Rattle.measures.specs.Six.{earliest, fastest, fewest_rides, latest, least_riding, least_waiting}
 use Rattle.journeys.specs.declared.query.Query.{Query}
 use Rattle.journeys.specs.Best.{Least, NothingFits}
-use Rattle.journeys.specs.Formulas.{label_of, score_of, through}
-use Rattle.journeys.specs.Journeys.{Fits, Link, end_of, ending, final, numbered, reaches}
+use Rattle.journeys.specs.Formulas.{score_of, through}
+use Rattle.journeys.specs.Journeys.{Fits, Link, end_of, final, numbered, reaches}
 use Rattle.walks.specs.Walks.{Known, Starts, Traveller, Walk, is_opening}
 
 pub data Origin : Type 0 where
@@ -117,12 +117,7 @@ module _ {L : Type 0} (m : Ops L) where
       → Right m es p q g n
       → Late q es n
       → ((i : ℕ) (l : L) (o : Origin) → EndsRightly es q g n i l o → Lowest es q g n i l
-      → ((js : List ℕ)
-      × Traced g i q.call js
-      × Fits es p q js
-      × (label_of m es js ≡ l)
-      × (ending es js ≡ end_of (numbered es i))
-      × (score_of m es js ≡ m.settle l (end_of (numbered es i))))
+      → ((js : List ℕ) × Traced g i q.call js × Fits es p q js × (score_of m es js ≡ m.settle l (end_of (numbered es i))))
       × Least m es p q (m.settle l (end_of (numbered es i))))
       × (NothingFits es p q → (i : ℕ) (l : L) (o : Origin) → EndsRightly es q g n i l o → ⊥)
       × (((i : ℕ) (l : L) (o : Origin) → EndsRightly es q g n i l o → ⊥) → NothingFits es p q)
