@@ -1,16 +1,16 @@
 -- A load's memory: what each accepted record adds to the block at its front.
-use Rattle.std.proofs.Common.{◌≡◌, ℕ, zero, suc, ◌+◌, ◌-◌, ◌*◌, ◌/◌, ◌%◌, ◌<◌, ◌≤◌, true, ◌&&◌, ◌||◌, eqb, leb, List, [], ◌∷◌, ◌++◌, map, length, get_or, take, drop, Ok, sym, refl, ap, ◌∙◌, subst, ⊎_elim, arith}
+use Rattle.std.proofs.Common.{◌≡◌, ℕ, zero, suc, ◌+◌, ◌-◌, ◌*◌, ◌%◌, ◌<◌, ◌≤◌, true, ◌&&◌, ◌||◌, eqb, leb, List, [], ◌∷◌, ◌++◌, map, length, take, drop, Ok, sym, refl, ap, ◌∙◌, subst, ⊎_elim, arith}
 use borrow.Rule.Slice.PartMut.{put_mid}
-use Rattle.std.proofs.lemmas.List.FromFn.{length-map-range_with_len, get_or-map-range_with_len, map-range_with_len_more}
-use Rattle.std.proofs.lemmas.List.{append_assoc, drop-append-le, take-append-le, take_all, take-append-drop, take_at, drop_at, drop-drop, same_lists, map-append, length-append, length-take-le, length-drop, flat_map_more}
+use Rattle.std.proofs.lemmas.List.FromFn.{map-range_with_len_more}
+use Rattle.std.proofs.lemmas.List.{append_assoc, drop-append-le, take-append-le, take_all, take-append-drop, take_at, drop_at, drop-drop, map-append, length-append, length-take-le, length-drop, flat_map_more}
 use Rattle.std.proofs.lemmas.Bool.{and_parts, cases_lt, eqb-true, leb-true, eq-eqb, le-leb}
 use Rattle.std.specs.List.{range_with_len, flat_map}
 use Rattle.faults.specs.declared.Fault.TheVariants.{OutOfOrder}
-use Rattle.faults.specs.Rules.{Rule, Kept, first_broken}
-use Rattle.faults.proofs.Rules.{first_broken_kept, judged_kept, kept_append, kept_both, kept_parts}
+use Rattle.faults.specs.Rules.{Rule, Kept}
+use Rattle.faults.proofs.Rules.{first_broken_kept, judged_kept, kept_both, kept_parts}
 use Rattle.records.specs.Events.{in_order}
 use Rattle.records.specs.Layout.{event_in, record_rules}
-use Rattle.blocks.specs.Blocks.{block_rules, count, event_at, events_of, opening, record_at, records_rules, rules_after, rules_at}
+use Rattle.blocks.specs.Blocks.{block_rules, count, event_at, events_of, record_at, rules_after, rules_at}
 use Rattle.blocks.specs.Loads.{Filled, Filling, add_rules, added, begun, placed}
 use Rattle.blocks.proofs.Scans.{kept_counting}
 

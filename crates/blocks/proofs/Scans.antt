@@ -1,5 +1,5 @@
 -- The records of a block, one after another.
-use Rattle.std.proofs.Common.{◌≡◌, ℕ, zero, suc, ◌+◌, ◌-◌, ◌*◌, ◌%◌, ◌<◌, ◌≤◌, true, false, cond, ◌||◌, eqb, ltb, leb, List, [], ◌∷◌, ◌++◌, map, length, get_or, drop, Some, None, sym, ap, ◌∙◌, subst, ⊎_elim, arith}
+use Rattle.std.proofs.Common.{◌≡◌, ℕ, zero, suc, ◌+◌, ◌-◌, ◌*◌, ◌%◌, ◌<◌, ◌≤◌, true, false, cond, ◌||◌, eqb, ltb, leb, List, ◌∷◌, length, get_or, drop, Some, None, sym, ap, ◌∙◌, subst, ⊎_elim, arith}
 use Rattle.std.proofs.lemmas.List.FromFn.{length-map-range_with_len, get_or-map-range_with_len}
 use Rattle.std.proofs.lemmas.Option.{slice_get-get_or, slice_get_past}
 use Rattle.std.specs.List.{range_with_len, flat_map, slice_get}
@@ -13,7 +13,7 @@ use Rattle.records.proofs.Limits.{limits_anywhere, stops_event_in}
 use Rattle.records.specs.declared.event.Event.{Event}
 use Rattle.records.specs.Events.{Listed, Within, in_order}
 use Rattle.records.specs.Layout.{is_opening, is_ride, record_rules, spare, zeros}
-use Rattle.blocks.specs.Blocks.{block_rules, count, event_at, events_of, record_at, records_rules, rules_at}
+use Rattle.blocks.specs.Blocks.{block_rules, count, event_at, events_of, record_at, rules_at}
 
 pub counting_next : (i n : ℕ) → i < n → range_with_len i (n - i) ≡ i ∷ range_with_len (i + 1) (n - (i + 1))
 counting_next i n h = let e : n - i ≡ suc (n - (i + 1)) = omega arith in rw e

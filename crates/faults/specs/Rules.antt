@@ -3,7 +3,7 @@
 --     first_broken rs  the fault of the first rule whose test is false, none where all are true
 --     kept rs          every test is true
 --     judged rs x      x where every test is true, else the first broken rule's fault
-use Rattle.std.specs.Prelude.{◌≡◌, Bool, true, cond, List, [], ◌∷◌, Some, None, Ok, Err, Option, Result}
+use Rattle.std.specs.Prelude.{◌≡◌, Bool, cond, List, [], ◌∷◌, Some, None, Ok, Err, Option, Result}
 use Rattle.faults.specs.declared.Fault.{Fault}
 
 abbrev pub Rule : Type 0

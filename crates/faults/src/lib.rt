@@ -1,4 +1,6 @@
 // Every refusal of the engine: one type, carried by `?` from a record up to the program.
+#![tactic(auto)]
+
 ghost use Rattle.std.specs.Prelude.{◌≡◌};
 ghost use Rattle.faults.specs.Numbered.{reported};
 

@@ -140,7 +140,7 @@ fn add_up(events: &[Event], steps: &[usize]) -> Totals
 
 // A label taken through the numbered events.
 fn label_along<M: Measure>(events: &[Event], begin: M::Label, steps: &[usize]) -> M::Label
-    ensures { result ≡ along M.Measure.ops events.now begin steps.now }
+    ensures { result ≡ along M.ops events.now begin steps.now }
 {
     let mut label = begin;
     for step in steps {
@@ -169,7 +169,7 @@ pub fn judge<M: Measure>(
     query: Query,
     steps: &[usize],
 ) -> Option<Verdict>
-    ensures { Judged M.Measure.ops events.now (in_force marks.now) query steps.now result }
+    ensures { Judged M.ops events.now (in_force marks.now) query steps.now result }
 {
     if steps.len() == 0 || !is_chain(events, marks, steps) {
         return None;

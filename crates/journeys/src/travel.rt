@@ -42,7 +42,7 @@ pub fn end_of(event: Event) -> u64
 
 // A label taken through an event.
 pub fn label_through<M: Measure>(label: M::Label, event: Event) -> M::Label
-    ensures { result ≡ through M.Measure.ops event label }
+    ensures { result ≡ through M.ops event label }
 {
     match event {
         Event::Opening { .. } => label,

@@ -5,7 +5,7 @@
 --     least_riding     s: riding; end. The label is the riding
 --     fewest_rides     n: number of rides; end. The label is that number
 --     least_waiting    c: waiting; end. The label is begin plus riding
-use Rattle.std.specs.Prelude.{ℕ, ◌+◌, ◌-◌, ◌^◌, min, eqb, leb, ltb, ℤ, pos, ◌-ℤ◌, ◌&&◌, ◌||◌}
+use Rattle.std.specs.Prelude.{ℕ, ◌+◌, ◌-◌, ◌^◌, min, eqb, leb, ltb, pos, ◌-ℤ◌, ◌&&◌, ◌||◌}
 use Rattle.measures.specs.declared.by_trip.Trip.{Trip}
 use Rattle.measures.specs.Measures.{Ops}
 

@@ -1,4 +1,6 @@
 // Measures: how a journey is scored, and how labels of unfinished journeys compare.
+#![tactic(auto)]
+
 mod by_begin;
 mod by_rides;
 mod by_riding;

@@ -1,11 +1,11 @@
 -- The limits of an event, at any place.
-use Rattle.std.proofs.Common.{◌≡◌, ℕ, ◌+◌, ◌<◌, true, false, not, ◌&&◌, eqb, leb, List, get_or, ⊎_elim}
+use Rattle.std.proofs.Common.{ℕ, ◌+◌, ◌<◌, not, ◌&&◌, eqb, leb, List, get_or, ⊎_elim}
 use Rattle.std.proofs.lemmas.Bool.{cases_Bool}
 use Rattle.faults.proofs.Rules.{kept_parts, kept_both}
 use Rattle.faults.specs.Rules.{Kept}
 use Rattle.records.specs.declared.event.Event.{Event}
 use Rattle.records.specs.declared.event.Event.TheVariants.{Opening, Ride}
-use Rattle.records.specs.Events.{Stops, Within, limits}
+use Rattle.records.specs.Events.{Stops, limits}
 use Rattle.records.specs.Layout.{event_in, is_opening}
 
 pub limits_anywhere : (p q : ℕ) (e : Event) → Kept (limits p e) → Kept (limits q e)

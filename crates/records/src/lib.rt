@@ -1,4 +1,6 @@
 // An event of the timetable, and the sixteen bytes that record it.
+#![tactic(auto)]
+
 mod event;
 mod record;
 

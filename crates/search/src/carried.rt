@@ -19,9 +19,9 @@ pub struct Carrying<M>(M);
 impl<M: Measure> Measure for Carrying<M> {
     type Label = Carried<M::Label>;
 
-    ghost ops = { carrying M.Measure.ops };
+    ghost ops = { carrying M.ops };
 
-    ghost laws = { carrying_laws M.Measure.ops M.Measure.laws };
+    ghost laws = { carrying_laws M.ops M.laws };
 
     fn begin(minute: u32) -> Carried<M::Label> {
         Carried {

@@ -62,7 +62,7 @@ fn travel<S: Source, M: Measure>(
     steps: &mut [usize],
 ) -> Option<Arrived<M::Label>>
     requires { (length (S.events source.old) * 2 ≤ length log.old) × ((512 ≤ length board.old) × ((length (S.events source.old) * 2 ≤ length queue.old) × (length (S.events source.old) ≤ length steps.old))) }
-    ensures travelled { Travelled M.Measure.ops (S.events source.old) (in_force marks.now) query.query steps.old result steps.new }
+    ensures travelled { Travelled M.ops (S.events source.old) (in_force marks.now) query.query steps.old result steps.new }
     ensures same { S.events source.new ≡ S.events source.old }
     ensures place { S.place source.new ≡ reads_of (S.events source.old) query.query.close }
 {
@@ -87,7 +87,7 @@ fn travel<S: Source, M: Measure>(
 
 // What is told of a journey that was found.
 fn answer<M: Measure>(arrived: Arrived<Carried<M::Label>>) -> Answer
-    ensures { result ≡ telling M.Measure.ops arrived }
+    ensures { result ≡ telling M.ops arrived }
 {
     let Carried {
         label,
@@ -120,7 +120,7 @@ pub fn search<S: Source, M: Measure>(
     queue: &mut [Arrival],
     steps: &mut [usize],
 ) -> Result<Option<Answer>, Fault>
-    ensures found { MatchResult result (λ o. Kept (table_rules (length (S.events source.old)) (tables log.old board.old queue.old steps.old)) × Found M.Measure.ops (S.events source.old) (in_force marks.now) query.query steps.old o steps.new) (λ f. first_broken (table_rules (length (S.events source.old)) (tables log.old board.old queue.old steps.old)) ≡ Some f) }
+    ensures found { MatchResult result (λ o. Kept (table_rules (length (S.events source.old)) (tables log.old board.old queue.old steps.old)) × Found M.ops (S.events source.old) (in_force marks.now) query.query steps.old o steps.new) (λ f. first_broken (table_rules (length (S.events source.old)) (tables log.old board.old queue.old steps.old)) ≡ Some f) }
     ensures read { MatchResult result (λ _. (S.events source.new ≡ S.events source.old) × (S.place source.new ≡ reads_of (S.events source.old) query.query.close)) (λ _. source.new ≡ source.old) }
     ensures refused { OnErr result ((log.new ≡ log.old) × (board.new ≡ board.old) × (queue.new ≡ queue.old) × (steps.new ≡ steps.old)) }
 {

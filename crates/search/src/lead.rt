@@ -50,7 +50,7 @@ fn not_higher(first: (i64, i64), second: (i64, i64)) -> bool
 
 // The score of an entry, settled at its end.
 fn score<M: Measure>(entry: &Entry<M::Label>) -> (i64, i64)
-    ensures { result ≡ scored M.Measure.ops entry.now }
+    ensures { result ≡ scored M.ops entry.now }
 {
     M::settle(entry.label, entry.end)
 }
@@ -62,7 +62,7 @@ fn lead<M: Measure>(
     event: usize,
     entry: Option<Entry<M::Label>>,
 ) -> Option<Leader<M::Label>>
-    ensures { LeadsOn M.Measure.ops query leader event entry result }
+    ensures { LeadsOn M.ops query leader event entry result }
 {
     let Some(comes) = contender(query, event, entry) else {
         return leader;
@@ -83,7 +83,7 @@ pub(crate) fn lowest<M: Measure>(
     query: Query,
     done: usize,
 ) -> Option<Leader<M::Label>>
-    ensures { Leads M.Measure.ops query log.now done result }
+    ensures { Leads M.ops query log.now done result }
 {
     let mut leader = None;
     for event in 0..done {

@@ -46,7 +46,7 @@ pub(crate) fn read_up<S: Source, M: Measure>(
     queue: &mut [Arrival],
 ) -> usize
     requires { (Cleared log.old) × ((Cleared board.old) × ((length (S.events source.old) * 2 ≤ length log.old) × ((512 ≤ length board.old) × (length (S.events source.old) * 2 ≤ length queue.old)))) }
-    ensures { ReadUp M.Measure.ops (S.events source.old) (in_force marks.now) query log.new result (S.events source.new) (S.place source.new) }
+    ensures { ReadUp M.ops (S.events source.old) (in_force marks.now) query log.new result (S.events source.new) (S.place source.new) }
 {
     source.rewind();
     let mut used = 0;

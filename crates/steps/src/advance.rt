@@ -27,7 +27,7 @@ fn note_state<M: Measure>(
     called: bool,
 )
     requires { (slot_of number called < length log.old) × (used.old < length queue.old) }
-    ensures noted { Noting (entered M.Measure.ops event (best_before M.Measure.ops board.now query event called)) number called log.old queue.old used.old log.new queue.new used.new }
+    ensures noted { Noting (entered M.ops event (best_before M.ops board.now query event called)) number called log.old queue.old used.old log.new queue.new used.new }
     ensures more { used.new ≤ used.old + 1 }
 {
     if let Some(entry) = entry_of::<M>(board, query, event, called) {
@@ -48,7 +48,7 @@ fn take_event<M: Measure>(
     in_force: bool,
 )
     requires { (slot_of number true < length log.old) × (used.old + 1 < length queue.old) }
-    ensures stands { Steps M.Measure.ops query number event in_force log.old board.old queue.old used.old log.new board.new queue.new used.new }
+    ensures stands { Steps M.ops query number event in_force log.old board.old queue.old used.old log.new board.new queue.new used.new }
     ensures more { used.new ≤ used.old + 2 }
 {
     drain::<M>(log, board, queue, used, event.time());
@@ -77,7 +77,7 @@ pub fn step<M: Measure>(
     event: Event,
     in_force: bool,
 ) -> Result<(), Fault>
-    ensures { Stepping M.Measure.ops query number event in_force log.old board.old queue.old used.old result log.new board.new queue.new used.new }
+    ensures { Stepping M.ops query number event in_force log.old board.old queue.old used.old result log.new board.new queue.new used.new }
 {
     if !has_room(number, log.len(), queue.len(), *used) {
         return Err(Fault::WorkTableTooShort);

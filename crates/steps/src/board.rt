@@ -16,7 +16,7 @@ fn prefer<M: Measure>(
     stands: Option<Standing<M::Label>>,
     comes: Standing<M::Label>,
 ) -> Standing<M::Label>
-    ensures { result ≡ preferred M.Measure.ops stands comes }
+    ensures { result ≡ preferred M.ops stands comes }
 {
     match stands {
         None => comes,
@@ -37,7 +37,7 @@ pub(crate) fn place<M: Measure>(
     comes: Standing<M::Label>,
 )
     requires { at < length board.old }
-    ensures { board.new ≡ slice_set board.old at (Some (preferred M.Measure.ops (slice_index_or board.old at None) comes)) }
+    ensures { board.new ≡ slice_set board.old at (Some (preferred M.ops (slice_index_or board.old at None) comes)) }
 {
     let stands = board[at];
     board[at] = Some(prefer::<M>(stands, comes));

@@ -52,7 +52,7 @@ fn bring<M: Measure>(
     board: &mut [Option<Standing<M::Label>>],
     arrival: Arrival,
 )
-    ensures { board.new ≡ brought M.Measure.ops log.now board.old arrival }
+    ensures { board.new ≡ brought M.ops log.now board.old arrival }
 {
     let Some(entry) = entry_for(log, arrival.event, arrival.called) else {
         return;
@@ -79,7 +79,7 @@ pub(crate) fn drain<M: Measure>(
     minute: u32,
 )
     ensures fewer { used.new ≤ used.old }
-    ensures accounts { (k t : ℕ) → t ≤ minute → Accounts M.Measure.ops log.now board.old queue.old used.old k t → Accounts M.Measure.ops log.now board.new queue.new used.new k minute × Later minute (held queue.new used.new) }
+    ensures accounts { (k t : ℕ) → t ≤ minute → Accounts M.ops log.now board.old queue.old used.old k t → Accounts M.ops log.now board.new queue.new used.new k minute × Later minute (held queue.new used.new) }
 {
     while let Some(arrival) = take_due(queue, used, minute) {
         bring::<M>(log, board, arrival);

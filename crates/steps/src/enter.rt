@@ -13,7 +13,7 @@ use records::{Event, Stop};
 
 // The label of a journey that begins with this event, none where no journey may.
 fn fresh_label<M: Measure>(query: Query, event: Event) -> Option<M::Label>
-    ensures { result ≡ fresh_label M.Measure.ops query event }
+    ensures { result ≡ fresh_label M.ops query event }
 {
     if leaves_at(event) == query.from && query.open <= event.time() {
         Some(M::begin(event.time()))
@@ -28,7 +28,7 @@ fn choose<M: Measure>(
     ready: Option<Standing<M::Label>>,
     called: bool,
 ) -> Option<(M::Label, Origin)>
-    ensures { result ≡ chosen M.Measure.ops fresh ready called }
+    ensures { result ≡ chosen M.ops fresh ready called }
 {
     let Some(standing) = ready else {
         return match fresh {
@@ -98,7 +98,7 @@ fn best_before<M: Measure>(
     event: Event,
     called: bool,
 ) -> Option<(M::Label, Origin)>
-    ensures { result ≡ best_before M.Measure.ops board.now query event called }
+    ensures { result ≡ best_before M.ops board.now query event called }
 {
     let opening = is_opening(event);
     if opening && !called {
@@ -120,7 +120,7 @@ pub(crate) fn entry_of<M: Measure>(
     event: Event,
     called: bool,
 ) -> Option<Entry<M::Label>>
-    ensures { result ≡ entered M.Measure.ops event (best_before M.Measure.ops board.now query event called) }
+    ensures { result ≡ entered M.ops event (best_before M.ops board.now query event called) }
 {
     match best_before::<M>(board, query, event, called) {
         Some((label, origin)) => Some(Entry {

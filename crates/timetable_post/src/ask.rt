@@ -18,7 +18,7 @@ pub(crate) fn ask<S: Source, M: Measure>(
     queue: &mut [Arrival],
     steps: &mut [usize],
 ) -> Result<Answer, Fault>
-    ensures { Queried M.Measure.ops S.events S.place query (handed source.old marks.now log.old board.old queue.old steps.old) result (handed source.new marks.now log.new board.new queue.new steps.new) }
+    ensures { Queried M.ops S.events S.place query (handed source.old marks.now log.old board.old queue.old steps.old) result (handed source.new marks.now log.new board.new queue.new steps.new) }
 {
     let checked = CheckedQuery::new(query)?;
     let found = search::<S, M>(source, marks, checked, log, board, queue, steps)?;

@@ -95,7 +95,7 @@ impl<S: Source + Drop> Post<S> {
         queue: &mut [Arrival],
         steps: &mut [usize],
     ) -> Result<Answer, Fault>
-        ensures { Queried M.Measure.ops S.events S.place query (handed self.old.source self.old.marks log.old board.old queue.old steps.old) result (handed self.new.source self.new.marks log.new board.new queue.new steps.new) }
+        ensures { Queried M.ops S.events S.place query (handed self.old.source self.old.marks log.old board.old queue.old steps.old) result (handed self.new.source self.new.marks log.new board.new queue.new steps.new) }
     {
         ask::<S, M>(
             &mut self.source,

@@ -8,22 +8,22 @@ use measures::{
 
 // The journeys that fit are exactly the walks that end rightly.
 pub fn walks_fit<M: Measure>()
-    ensures { WalksFit M.Measure.ops }
+    ensures { WalksFit M.ops }
 {}
 
 // Of two walks that can go on with one event, the no-worse one can take the other's place.
 pub fn walks_exchange<M: Measure>()
-    ensures { Exchange M.Measure.ops }
+    ensures { Exchange M.ops }
 {}
 
 // A log that is right at each event covers every walk, and tracing it back spells a walk for each entry.
 pub fn right_logs_are_global<M: Measure>()
-    ensures { LogIsGlobal M.Measure.ops }
+    ensures { LogIsGlobal M.ops }
 {}
 
 // The lowest settled entry of a right log is the best score of the journeys that fit.
 pub fn right_logs_give_the_best<M: Measure>()
-    ensures { LogGivesBest M.Measure.ops }
+    ensures { LogGivesBest M.ops }
 {}
 
 // Events from the first that is later than the close on can't be part of a journey that fits.

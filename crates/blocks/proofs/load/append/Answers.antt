@@ -1,4 +1,4 @@
-use Rattle.std.proofs.Common.{◌≡◌, eqb, length, sym, refl, ◌∙◌}
+use Rattle.std.proofs.Common.{eqb, length, sym, ◌∙◌}
 use Rattle.std.proofs.lemmas.Bool.{eqb-true}
 use Rattle.faults.specs.Rules.{Kept}
 use Rattle.faults.proofs.Rules.{judged_kept, kept_from_ok, kept_parts}

@@ -1,6 +1,6 @@
-use Rattle.std.proofs.Common.{◌≡◌, ◌+◌, ◌<◌, false, ◌&&◌, eqb, length, get_or, drop, sym, refl, ap, ◌∙◌, arith}
+use Rattle.std.proofs.Common.{◌+◌, eqb, get_or, drop, sym, ◌∙◌}
 use Rattle.std.proofs.lemmas.List.{at_drop_more, at_drop_all}
-use Rattle.std.proofs.lemmas.Bool.{ne_eqb, eq-eqb, and_left}
+use Rattle.std.proofs.lemmas.Bool.{ne_eqb, and_left}
 use Rattle.records.specs.Layout.{zeros}
 use Rattle.records.proofs.record.all_zero.Goals as goal
 

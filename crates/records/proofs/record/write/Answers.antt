@@ -1,4 +1,4 @@
-use Rattle.std.proofs.Common.{◌≡◌, Ok, sym, ap, ◌∙◌}
+use Rattle.std.proofs.Common.{Ok, sym, ap, ◌∙◌}
 use Rattle.faults.proofs.Rules.{kept_from_ok, judged_kept}
 use Rattle.faults.specs.Rules.{Kept}
 use Rattle.records.specs.Events.{limits}

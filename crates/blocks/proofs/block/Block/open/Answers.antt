@@ -1,5 +1,5 @@
-use Rattle.std.proofs.Common.{◌≡◌, sym, refl, ◌∙◌, arith}
-use Rattle.faults.specs.Rules.{Kept, first_broken}
+use Rattle.std.proofs.Common.{sym, refl, ◌∙◌, arith}
+use Rattle.faults.specs.Rules.{Kept}
 use Rattle.faults.proofs.Rules.{first_broken_kept, kept_from_ok, judged_kept}
 use Rattle.blocks.specs.Blocks.{block_rules, records_rules, size_rules}
 use Rattle.blocks.proofs.Scans.{listed_events_of}

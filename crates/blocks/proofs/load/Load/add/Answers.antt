@@ -1,7 +1,7 @@
-use Rattle.std.proofs.Common.{◌≡◌, Ok, sym, refl, ◌∙◌}
+use Rattle.std.proofs.Common.{sym, refl, ◌∙◌}
 use Rattle.faults.specs.Rules.{Kept}
 use Rattle.faults.proofs.Rules.{judged_kept, kept_from_ok}
-use Rattle.blocks.specs.Loads.{add_rules, placed}
+use Rattle.blocks.specs.Loads.{add_rules}
 use Rattle.blocks.proofs.Fills.{more_filling}
 use Rattle.blocks.proofs.load.Load.add.Goals as goal
 
