@@ -1,14 +1,14 @@
 -- The scores of the six measures, by their plain formulas.
-use Rattle.std.proofs.Common.{◌≡◌, ℕ, ◌+◌, ◌-◌, ◌^◌, ◌<◌, ◌≤◌, min, Bool, List, [], ◌∷◌, ℤ, pos, ◌-ℤ◌, sym, refl, ap, ◌∙◌, arith}
+use Rattle.std.proofs.Common.{◌≡◌, ℕ, ◌+◌, ◌^◌, ◌<◌, ◌≤◌, Bool, List, [], ◌∷◌, pos, ◌-ℤ◌, refl, ap, ◌∙◌, arith}
 use Rattle.std.proofs.lemmas.Int.{ints}
 use Rattle.records.specs.declared.event.Event.{Event}
 use Rattle.records.specs.declared.event.Event.TheVariants.{Opening, Ride}
 use Rattle.records.specs.Events.{Listed}
 use Rattle.measures.specs.declared.by_trip.Trip.{Trip}
-use Rattle.measures.specs.Measures.{Ops, Score}
+use Rattle.measures.specs.Measures.{Ops}
 use Rattle.measures.specs.Six.{capped, earliest, fastest, fewest_rides, latest, least_riding, least_waiting}
 use Rattle.journeys.specs.declared.query.Query.{Query}
-use Rattle.journeys.specs.Formulas.{Plain, SixPlain, along, label_of, score_of, through}
+use Rattle.journeys.specs.Formulas.{SixPlain, along, label_of, through}
 use Rattle.journeys.specs.Journeys.{Journey, beginning, ending, minutes, numbered, one_if_ride, rides, riding, total, waiting}
 use Rattle.journeys.proofs.Spans.{journey_span}
 

@@ -1,5 +1,5 @@
 -- How long a chain of linked events takes, and within which limits.
-use Rattle.std.proofs.Common.{◌≡◌, ℕ, ◌+◌, ◌-◌, ◌<◌, ◌≤◌, Bool, true, not, ◌&&◌, eqb, leb, List, [], ◌∷◌, length, get_or, refl, arith}
+use Rattle.std.proofs.Common.{◌≡◌, ℕ, ◌+◌, ◌<◌, ◌≤◌, Bool, true, not, ◌&&◌, eqb, leb, List, [], ◌∷◌, length, refl, arith}
 use Rattle.std.proofs.ByRecursion.{All-get_or}
 use Rattle.std.proofs.lemmas.Bool.{and_parts, leb-true}
 use Rattle.std.specs.List.{AllByRecursion as All}
@@ -8,7 +8,7 @@ use Rattle.records.specs.declared.event.Event.{Event}
 use Rattle.records.specs.declared.event.Event.TheVariants.{Opening, Ride}
 use Rattle.records.specs.Events.{Listed, Within, time_of}
 use Rattle.journeys.specs.declared.query.Query.{Query}
-use Rattle.journeys.specs.Journeys.{Chained, Journey, Link, WaitingIsGaps, beginning, end_of, ending, final, final_from, first, gaps, gaps_from, minutes, numbered, one_if_ride, rides, riding, total, waiting}
+use Rattle.journeys.specs.Journeys.{Chained, Journey, Link, WaitingIsGaps, beginning, end_of, ending, final_from, gaps, minutes, numbered, one_if_ride, rides, riding}
 
 -- an event takes its minutes
 end_of_minutes : (e : Event) → end_of e ≡ time_of e + minutes e

@@ -1,12 +1,12 @@
 -- Journeys without a call are the temporal walks within the window.
-use Rattle.std.proofs.Common.{◌≡◌, ℕ, ◌+◌, ◌<◌, ◌≤◌, Bool, true, false, cond, List, [], ◌∷◌, map, length, sym, refl, ap, ◌∙◌, arith}
+use Rattle.std.proofs.Common.{◌≡◌, ℕ, ◌+◌, ◌<◌, ◌≤◌, Bool, true, false, cond, List, [], ◌∷◌, length, sym, refl, ap, ◌∙◌, arith}
 use Rattle.std.specs.List.{AllByRecursion as All}
 use Rattle.records.specs.declared.event.Event.{Event}
 use Rattle.records.specs.declared.event.Event.TheVariants.{Opening, Ride}
 use Rattle.records.specs.Events.{Listed, time_of}
 use Rattle.journeys.specs.declared.query.Query.{Query}
-use Rattle.journeys.specs.Journeys.{Chained, Fits, Journey, Link, end_of, final, final_from, first, leaves, minutes, numbered, one_if_opening, one_if_ride, openings, reaches, ready, rides}
-use Rattle.journeys.specs.Walks.{TemporalEdge, TemporalWalk, WalkInWindow, WalksAreJourneys, edge_of}
+use Rattle.journeys.specs.Journeys.{Fits, Link, end_of, final, first, leaves, minutes, numbered, one_if_opening, one_if_ride, openings, reaches, rides}
+use Rattle.journeys.specs.Walks.{TemporalEdge, WalkInWindow, WalksAreJourneys, edge_of}
 use Rattle.journeys.proofs.Chains.{chained_map, earlier_is_lower, map_chained}
 use Rattle.journeys.proofs.Spans.{known_within, within_ride}
 

@@ -9,7 +9,7 @@
 --     SixPlain         the six measures have these formulas, first part; second part:
 --                      e (end; 999,999 − begin), l (999,999 − begin; end), f (end − begin; riding),
 --                      s (riding; end), n (rides; end), c (waiting; end)
-use Rattle.std.specs.Prelude.{◌≡◌, ℕ, Bool, List, [], ◌∷◌, ℤ, pos, ◌-ℤ◌}
+use Rattle.std.specs.Prelude.{◌≡◌, ℕ, Bool, List, [], ◌∷◌, pos, ◌-ℤ◌}
 use Rattle.records.specs.declared.event.Event.{Event}
 use Rattle.records.specs.declared.event.Event.TheVariants.{Opening, Ride}
 use Rattle.records.specs.Events.{Listed}

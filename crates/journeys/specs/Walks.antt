@@ -9,7 +9,7 @@
 --                          opening or later, the last is passed at its close or earlier
 --     WalksAreJourneys     in every timetable's list, the journeys without a call that fit are exactly
 --                          the temporal walks within the window
-use Rattle.std.specs.Prelude.{◌≡◌, ℕ, ◌+◌, ◌<◌, ◌≤◌, Bool, true, false, List, [], ◌∷◌, map, length}
+use Rattle.std.specs.Prelude.{◌≡◌, ℕ, ◌+◌, ◌<◌, ◌≤◌, Bool, true, false, List, map, length}
 use Rattle.std.specs.List.{AllByRecursion as All}
 use Rattle.records.specs.declared.event.Event.{Event}
 use Rattle.records.specs.declared.event.Event.TheVariants.{Opening, Ride}

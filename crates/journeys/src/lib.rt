@@ -1,4 +1,6 @@
 // What a traveller asks for, what a journey is, and how it is scored.
+#![tactic(auto)]
+
 mod facts;
 mod judgment;
 mod query;

@@ -1,4 +1,6 @@
 // A source of rides over a block of lines, each a ride that is repeated at an interval.
+#![tactic(auto)]
+
 mod cursor;
 mod departure;
 mod line;

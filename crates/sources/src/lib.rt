@@ -1,4 +1,6 @@
 // Sources of events: what every source answers, a source over a block of events, and a reading through any source.
+#![tactic(auto)]
+
 mod reading;
 mod record_source;
 mod source;

@@ -1,15 +1,15 @@
 -- The entry that a step makes is a best one: a candidate, and no worse than every candidate.
-use Rattle.std.proofs.Common.{◌≡◌, ℕ, ◌<◌, ◌≤◌, Bool, true, false, cond, ◌&&◌, eqb, leb, ◌⊎◌, List, length, Some, None, Option, sym, refl, ap, ◌∙◌, subst, inl, inr, ⊎_elim, arith}
+use Rattle.std.proofs.Common.{◌≡◌, ℕ, ◌<◌, Bool, true, false, cond, ◌&&◌, eqb, leb, ◌⊎◌, List, Some, None, Option, sym, refl, ap, ◌∙◌, subst, inl, inr, ⊎_elim, arith}
 use Rattle.std.proofs.ByRecursion.{all-has}
-use Rattle.std.proofs.lemmas.Bool.{and_from, and_parts, both_ways, cases_Bool, eq-eqb, eqb-true, le-leb, leb-true}
+use Rattle.std.proofs.lemmas.Bool.{and_from, and_parts, both_ways, eq-eqb, eqb-true, le-leb, leb-true}
 use Rattle.std.specs.Option.{option_map}
 use Rattle.records.specs.declared.event.Event.{Event}
 use Rattle.records.specs.declared.event.Event.TheVariants.{Opening, Ride}
-use Rattle.records.specs.Events.{Listed, Within, time_of}
+use Rattle.records.specs.Events.{Within, time_of}
 use Rattle.measures.specs.Measures.{Laws, Ops}
 use Rattle.journeys.specs.declared.query.Query.{Query}
 use Rattle.journeys.specs.Formulas.{through}
-use Rattle.journeys.specs.Journeys.{Link, end_of, leaves, numbered, reaches, ready}
+use Rattle.journeys.specs.Journeys.{Link, leaves, numbered}
 use Rattle.queue.specs.Queue.{held}
 use Rattle.walks.specs.Logs.{Candidate, Log, Passes, RightAt, after, calls, fresh, linked, rides, start}
 use Rattle.walks.specs.Logs as logs
@@ -20,7 +20,7 @@ use Rattle.steps.specs.declared.board.Standing.{Standing}
 use Rattle.steps.specs.declared.entry.Entry.{Entry}
 use Rattle.steps.specs.declared.entry.Origin.TheVariants.{After, Start}
 use Rattle.steps.specs.declared.entry.Origin as code
-use Rattle.steps.specs.Accounts.{Accounts, Later, StandingThere}
+use Rattle.steps.specs.Accounts.{Accounts, Later}
 use Rattle.steps.specs.Boards.{logged, stands}
 use Rattle.steps.specs.Entering.{best_at, best_before, chosen, entered, fresh_label}
 use Rattle.steps.specs.Views.{Agrees, noted, origin_of, view}

@@ -1,5 +1,5 @@
 -- From one event to the next.
-use Rattle.std.proofs.Common.{◌≡◌, ℕ, ◌+◌, ◌<◌, ◌≤◌, Bool, true, false, ◌⊎◌, List, length, get_or, set, Some, None, Option, sym, refl, ap, ◌∙◌, subst, inl, inr, ⊎_elim, arith}
+use Rattle.std.proofs.Common.{◌≡◌, ℕ, ◌+◌, ◌<◌, ◌≤◌, Bool, true, false, List, length, Some, None, Option, sym, refl, ap, ◌∙◌, subst, ⊎_elim, arith}
 use Rattle.std.proofs.ByRecursion.{All-get_or}
 use Rattle.std.proofs.lemmas.List.{get_or-set_other, get_or-set_same, length-set}
 use Rattle.std.proofs.lemmas.Bool.{both_ways, cases_eq, cases_lt}
@@ -11,17 +11,15 @@ use Rattle.measures.specs.Measures.{Laws, Ops}
 use Rattle.journeys.specs.declared.query.Query.{Query}
 use Rattle.journeys.specs.Journeys.{end_of, numbered, reaches}
 use Rattle.journeys.proofs.Spans.{within_ends}
-use Rattle.queue.specs.Queue.{Added, held}
+use Rattle.queue.specs.Queue.{held}
 use Rattle.walks.specs.Logs.{Candidate, Log, Right, RightAt, fresh, linked}
 use Rattle.walks.specs.Logs as logs
-use Rattle.walks.specs.Walks.{Known}
 use Rattle.steps.specs.declared.arrival.Arrival.{Arrival}
 use Rattle.steps.specs.declared.board.Standing.{Standing}
 use Rattle.steps.specs.declared.entry.Entry.{Entry}
 use Rattle.steps.specs.declared.entry.Origin as code
-use Rattle.steps.specs.Accounts.{Accounts, Later, Queued, StandingThere}
-use Rattle.steps.specs.Arrivals.{arriving, sooner}
-use Rattle.steps.specs.Boards.{logged, slot_of, stands}
+use Rattle.steps.specs.Accounts.{Accounts, Later}
+use Rattle.steps.specs.Boards.{logged, slot_of}
 use Rattle.steps.specs.Entering.{best_before, capped_end, entered}
 use Rattle.steps.specs.Standing.{Noting, StandsRight, Steps}
 use Rattle.steps.specs.Views.{Agrees, noted, view}

@@ -5,7 +5,7 @@
 --     best_before m b q e c the best label with which e can be taken so that the call state is c then, by a
 --                          fresh start or from the board b, and its origin
 --     entered m e x        the entry for e that comes of it
-use Rattle.std.specs.Prelude.{ℕ, ◌-◌, ◌^◌, min, Bool, true, false, cond, not, ◌&&◌, List, Some, None, Option, ◌==◌, nat_le}
+use Rattle.std.specs.Prelude.{ℕ, ◌-◌, ◌^◌, min, Bool, true, false, cond, ◌&&◌, List, Some, None, Option, ◌==◌, nat_le}
 use Rattle.records.specs.declared.event.Event.{Event}
 use Rattle.records.specs.Events.{time_of}
 use Rattle.measures.specs.Measures.{Ops}

@@ -3,7 +3,7 @@
 --     noted e              an entry's label with its origin
 --     view log             the table by event and call state
 --     Agrees es log        each entry has the stop that its event reaches, and the event's end
-use Rattle.std.specs.Prelude.{◌≡◌, ℕ, Bool, List, Some, None, Option}
+use Rattle.std.specs.Prelude.{◌≡◌, ℕ, Bool, List, Some, Option}
 use Rattle.std.specs.Option.{option_map}
 use Rattle.records.specs.declared.event.Event.{Event}
 use Rattle.journeys.specs.Journeys.{end_of, numbered, reaches}

@@ -1,4 +1,6 @@
 // The work tables of a search, and the step from one event to the next.
+#![tactic(auto)]
+
 mod advance;
 mod arrival;
 mod board;

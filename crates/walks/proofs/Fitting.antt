@@ -10,7 +10,7 @@ use Rattle.records.specs.Events.{Listed, Within, time_of}
 use Rattle.measures.specs.Measures.{Laws, Ops}
 use Rattle.journeys.specs.declared.query.Query.{Query}
 use Rattle.journeys.specs.Formulas.{along, label_of, through}
-use Rattle.journeys.specs.Journeys.{Chained, Fits, Link, beginning, end_of, ending, final, final_from, first, leaves, minutes, numbered, one_if_opening, one_if_ride, openings, reaches, ready, rides}
+use Rattle.journeys.specs.Journeys.{Chained, Fits, Link, beginning, end_of, final, final_from, first, leaves, minutes, numbered, one_if_opening, one_if_ride, openings, reaches, ready, rides}
 use Rattle.journeys.proofs.Spans.{known_within, within_long, within_ride}
 use Rattle.journeys.proofs.Temporal.{one_kind}
 use Rattle.walks.specs.Walks.{Boards, Exchange, FitsBy, Known, Rightly, Starts, Traveller, Walk, WalksFit, begins, goes_on, is_opening, moved, outset}

@@ -7,11 +7,11 @@ use Rattle.records.specs.Events.{Listed, time_of}
 use Rattle.measures.specs.Measures.{Laws, Ops}
 use Rattle.journeys.specs.declared.query.Query.{Query}
 use Rattle.journeys.specs.Formulas.{through}
-use Rattle.journeys.specs.Journeys.{Link, final, leaves, numbered, reaches, ready}
+use Rattle.journeys.specs.Journeys.{Link, final, numbered, reaches, ready}
 use Rattle.journeys.proofs.Spans.{known_within}
 use Rattle.walks.specs.Logs.{Candidate, Covers, Log, LogIsGlobal, Origin, Passes, Right, RightAt, Spells, Traced, after, calls, first, fresh, linked, rides, start, then}
-use Rattle.walks.specs.Walks.{Boards, Known, Starts, Traveller, Walk, begins, goes_on, is_opening, moved, outset}
-use Rattle.walks.proofs.Fitting.{Facts, goes_up, through_kept, walk_facts}
+use Rattle.walks.specs.Walks.{Boards, Known, Traveller, Walk, begins, goes_on, is_opening, moved, outset}
+use Rattle.walks.proofs.Fitting.{goes_up, through_kept, walk_facts}
 use Rattle.walks.proofs.Snocs.{final_snoc}
 
 -- the call state that an event leaves

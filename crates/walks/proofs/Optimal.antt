@@ -1,19 +1,19 @@
 -- The lowest settled entry of a right log is the best score; and events that are too late.
-use Rattle.std.proofs.Common.{◌≡◌, ℕ, suc, ◌<◌, ◌≤◌, Bool, true, false, cond, leb, ◌⊎◌, List, [], ◌∷◌, length, ℤ, ◌≤ℤ◌, ◌<ℤ◌, Some, sym, refl, ap, ◌∙◌, subst, inl, inr, ⊎_elim, arith}
+use Rattle.std.proofs.Common.{◌≡◌, ℕ, suc, ◌<◌, ◌≤◌, Bool, true, false, cond, leb, List, [], ◌∷◌, length, sym, refl, ap, ◌∙◌, subst, ⊎_elim, arith}
 use Rattle.std.proofs.lemmas.Int.{ints}
-use Rattle.std.proofs.lemmas.Bool.{cases_Bool, cases_lt, leb-false}
+use Rattle.std.proofs.lemmas.Bool.{cases_lt, leb-false}
 use Rattle.records.specs.declared.event.Event.{Event}
 use Rattle.records.specs.declared.event.Event.TheVariants.{Opening, Ride}
 use Rattle.records.specs.Events.{Listed, time_of}
 use Rattle.measures.specs.Measures.{Laws, Ops, Score, ◌≼◌}
 use Rattle.journeys.specs.declared.query.Query.{Query}
-use Rattle.journeys.specs.Best.{Least, NothingFits}
+use Rattle.journeys.specs.Best.{Least}
 use Rattle.journeys.specs.Formulas.{label_of, score_of}
-use Rattle.journeys.specs.Journeys.{Fits, end_of, ending, final, final_from, numbered, reaches}
+use Rattle.journeys.specs.Journeys.{Fits, end_of, ending, final, numbered, reaches}
 use Rattle.journeys.proofs.Chains.{times_rise}
 use Rattle.journeys.proofs.Spans.{known_final, known_within, within_ends}
 use Rattle.walks.specs.Logs.{EndsRightly, Late, Log, LogGivesBest, Lowest, Origin, Right, StoppingLosesNothing, Traced, first_late}
-use Rattle.walks.specs.Walks.{Rightly, Traveller, Walk}
+use Rattle.walks.specs.Walks.{Rightly}
 use Rattle.walks.proofs.Fitting.{walk_facts, walks_fit}
 use Rattle.walks.proofs.Global.{covers, spells}
 

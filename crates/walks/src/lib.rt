@@ -1,4 +1,6 @@
 // The mathematics under a search, with no code in sight: walks, exchange, logs of best labels.
+#![tactic(auto)]
+
 ghost use Rattle.walks.specs.Logs.{LogGivesBest, LogIsGlobal, SixGiveBest, StoppingLosesNothing};
 ghost use Rattle.walks.specs.Walks.{Exchange, WalksFit};
 

@@ -1,4 +1,4 @@
-use Rattle.std.proofs.Common.{◌≡◌, ◌+◌, ap, ◌∙◌, arith}
+use Rattle.std.proofs.Common.{◌+◌, ap, ◌∙◌, arith}
 use Rattle.std.proofs.lemmas.List.{at_drop_all}
 use Rattle.journeys.specs.Journeys.{minutes, numbered, one_if_opening, one_if_ride, openings, rides, riding}
 use Rattle.journeys.proofs.Judging.{total-drop, totals_are}
