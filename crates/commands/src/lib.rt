@@ -1,4 +1,6 @@
 // A line of bytes as a command, and a command as a line of bytes.
+#![tactic(auto)]
+
 mod command;
 mod reader;
 mod writer;

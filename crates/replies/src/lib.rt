@@ -1,4 +1,6 @@
 // The replies of a post, and the lines that they are printed as.
+#![tactic(auto)]
+
 mod reply;
 mod writer;
 

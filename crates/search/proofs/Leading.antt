@@ -1,5 +1,5 @@
 -- Who leads, from one event to the next.
-use Rattle.std.proofs.Common.{◌≡◌, ℕ, ◌+◌, ◌<◌, ◌≤◌, Bool, true, false, ◌⊎◌, List, Some, None, Option, sym, refl, ap, ◌∙◌, subst, inl, inr, ⊎_elim, arith}
+use Rattle.std.proofs.Common.{◌≡◌, ℕ, ◌+◌, ◌<◌, ◌≤◌, List, Some, None, Option, sym, ap, ◌∙◌, subst, ⊎_elim, arith}
 use Rattle.std.proofs.lemmas.Int.{ints}
 use Rattle.std.proofs.lemmas.Bool.{cases_lt}
 use Rattle.measures.specs.Measures.{Ops, Score, ◌≼◌}
@@ -9,7 +9,7 @@ use Rattle.steps.specs.declared.entry.Entry.{Entry}
 use Rattle.search.specs.declared.lead.Leader.{Leader}
 use Rattle.steps.specs.Boards.{logged}
 use Rattle.search.specs.Readings.{Ends, Leads, scored}
-use Rattle.steps.proofs.Somes.{none_some, some_same}
+use Rattle.steps.proofs.Somes.{some_same}
 
 ≼-total : (s t : Score) → (s ≼ t → ⊥) → t ≼ s
 ≼-total s t h = grind (arith, ints, h)

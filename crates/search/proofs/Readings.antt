@@ -1,6 +1,6 @@
 -- Reading a source up to the close of a query.
-use Rattle.std.proofs.Common.{◌≡◌, ℕ, zero, suc, ◌+◌, ◌-◌, ◌*◌, ◌<◌, ◌≤◌, min, Bool, true, false, cond, leb, ◌⊎◌, List, [], ◌∷◌, length, take, Some, None, Ok, Err, Option, Result, sym, refl, ap, ◌∙◌, subst, inl, inr, ⊎_elim, arith}
-use Rattle.std.proofs.lemmas.Bool.{cases_lt, le-leb, leb-true, lt-leb}
+use Rattle.std.proofs.Common.{◌≡◌, ℕ, zero, suc, ◌+◌, ◌*◌, ◌<◌, ◌≤◌, Bool, cond, List, [], ◌∷◌, length, Some, None, Ok, Err, Option, Result, sym, refl, ap, ◌∙◌, subst, ⊎_elim, arith}
+use Rattle.std.proofs.lemmas.Bool.{cases_lt, le-leb, lt-leb}
 use Rattle.std.proofs.lemmas.Option.{slice_get-get_or}
 use Rattle.std.specs.List.{slice_get}
 use Rattle.faults.specs.declared.Fault.{Fault}
@@ -11,19 +11,13 @@ use Rattle.measures.specs.Measures.{Ops}
 use Rattle.journeys.specs.declared.query.Query.{Query}
 use Rattle.journeys.specs.Journeys.{numbered}
 use Rattle.journeys.proofs.Chains.{times_rise}
-use Rattle.queue.specs.Order.{Heaped}
-use Rattle.queue.specs.Queue.{held}
-use Rattle.sources.specs.Sources.{Reading, Rewinding}
+use Rattle.sources.specs.Sources.{Reading}
 use Rattle.sources.proofs.Readings.{at_end, before_end}
 use Rattle.walks.specs.Logs.{first_late}
 use Rattle.steps.specs.declared.arrival.Arrival.{Arrival}
 use Rattle.steps.specs.declared.board.Standing.{Standing}
 use Rattle.steps.specs.declared.entry.Entry.{Entry}
-use Rattle.steps.specs.Accounts.{Accounts}
-use Rattle.steps.specs.Arrivals.{sooner}
-use Rattle.steps.specs.Boards.{logged, stands}
 use Rattle.search.specs.Readings.{Cleared, ReadUp}
-use Rattle.search.specs.Searches.{reads_of}
 use Rattle.steps.specs.Standing.{Room, StandsRight, Stepping, Steps}
 use Rattle.steps.proofs.Somes.{none_some, some_same}
 

@@ -1,5 +1,5 @@
 -- From a log that is right up to the close to the best journey.
-use Rattle.std.proofs.Common.{◌≡◌, ℕ, ◌+◌, ◌*◌, ◌^◌, ◌<◌, ◌≤◌, min, Bool, ◌&&◌, leb, List, [], ◌∷◌, ◌++◌, length, take, drop, Some, None, Option, sym, refl, ap, ◌∙◌, subst, arith}
+use Rattle.std.proofs.Common.{◌≡◌, ℕ, ◌*◌, ◌<◌, ◌≤◌, Bool, ◌&&◌, leb, List, ◌++◌, length, take, drop, Some, None, Option, sym, ap, ◌∙◌, subst, arith}
 use Rattle.std.proofs.lemmas.List.{drop_all, drop-append-le, take_all, take-append-le}
 use Rattle.std.proofs.lemmas.Bool.{and_parts, leb-true}
 use Rattle.std.specs.Option.{option_map}
@@ -20,19 +20,17 @@ use Rattle.walks.proofs.Global.{own}
 use Rattle.walks.proofs.Optimal.{entry_fits, gives_best, log_gives_best, stopping_loses_nothing}
 use Rattle.search.specs.declared.carried.Carried.{Carried}
 use Rattle.steps.specs.declared.entry.Entry.{Entry}
-use Rattle.steps.specs.declared.entry.Origin.TheVariants.{After}
 use Rattle.search.specs.declared.lead.Leader.{Leader}
 use Rattle.search.specs.declared.finder.Arrived.{Arrived}
 use Rattle.steps.specs.Boards.{logged}
 use Rattle.search.specs.Carrying.{carrying}
 use Rattle.search.specs.Queries.{Tables, table_rules}
-use Rattle.search.specs.Readings.{Ends, Leads, ReadUp, Travelled, scored, telling}
+use Rattle.search.specs.Readings.{Ends, Leads, ReadUp, Travelled, telling}
 use Rattle.search.specs.Searches.{Named, answer_of, reads_of}
 use Rattle.search.specs.Tracing.{Backward}
 use Rattle.steps.specs.Views.{noted, origin_of, view}
 use Rattle.search.specs.Carryings.{label_carries}
 use Rattle.steps.proofs.Entries.{viewed}
-use Rattle.steps.proofs.Somes.{none_some, some_same}
 
 -- tables that break no rule are long enough
 pub tables_long : (n : ℕ) (t : Tables) → Kept (table_rules n t) → (n * 2 ≤ t.log) × (512 ≤ t.board) × (n * 2 ≤ t.queue) × (n ≤ t.steps)

@@ -1,7 +1,6 @@
 -- A measure whose labels carry along what an answer tells of a journey. Assumes nothing.
 --     carrying m       the measure m, with the journey's begin, its riding and its number of rides beside each
 --                      label; labels are compared and settled by m alone
-use Rattle.std.specs.Prelude.{ℕ}
 use Rattle.measures.specs.Measures.{Ops}
 use Rattle.measures.specs.Six.{capped}
 use Rattle.search.specs.declared.carried.Carried.{Carried}

@@ -1,4 +1,6 @@
 // The search for a best journey, in handed tables: a log of entries, a board of who stands ready at a stop, and awaited arrivals.
+#![tactic(auto)]
+
 mod answer;
 mod asked;
 mod carried;

@@ -1,5 +1,5 @@
 -- A call that does what it does gets what it is owed, whatever the history.
-use Rattle.std.proofs.Common.{◌≡◌, ℕ, zero, suc, ◌+◌, ◌-◌, ◌<◌, ◌≤◌, Bool, true, false, cond, not, eqb, ltb, ◌⊎◌, List, [], ◌∷◌, map, length, get_or, set, replicate, Some, None, Ok, Err, sum_by, count_by, Option, Result, sym, refl, ap, ◌∙◌, subst, inl, inr, ⊎_elim, add-zero, arith}
+use Rattle.std.proofs.Common.{◌≡◌, ℕ, zero, suc, ◌+◌, ◌-◌, ◌<◌, ◌≤◌, Bool, true, false, cond, not, ltb, List, [], ◌∷◌, map, length, get_or, set, replicate, Some, Ok, Err, count_by, Result, sym, refl, ap, ◌∙◌, subst, ⊎_elim, add-zero, arith}
 use mathlib.Core.Path.{fun_ext}
 use Rattle.std.proofs.lemmas.List.FromFn.{fill_by_all, sum_by-map-range_with_len_more}
 use Rattle.std.proofs.lemmas.List.{get_or_past, get_or-replicate, get_or-set_other, get_or-set_same, length-replicate, length-set}
@@ -7,14 +7,13 @@ use Rattle.std.proofs.lemmas.List.Sums.{sum_by-cons}
 use Rattle.std.proofs.lemmas.Bool.{both_ways, cases_Bool, cases_eq, cases_lt, eq-eqb, ltb-true, ne_eqb}
 use Rattle.std.specs.List.{range_with_len}
 use Rattle.faults.specs.declared.Fault.{Fault}
-use Rattle.faults.specs.declared.Fault.TheVariants.{NoJourney, NoticeWithoutEffect, UnknownEvent}
-use Rattle.faults.specs.Rules.{Kept, first_broken, judged}
+use Rattle.faults.specs.declared.Fault.TheVariants.{UnknownEvent}
+use Rattle.faults.specs.Rules.{first_broken, judged}
 use Rattle.faults.proofs.Rules.{kept_from_ok, kept_parts}
 use Rattle.records.specs.declared.event.Event.{Event}
-use Rattle.records.specs.Events.{Listed}
 use Rattle.journeys.specs.Verdicts.{in_force}
 use Rattle.timetable_post.specs.Calls.{Call, Does, Notice, QueryRight, noted, notice_rules, noticed, out_after, queried, tallied}
-use Rattle.timetable_post.specs.Days.{CarriesOn, Day, DepotsDay, Explains, Marked, Owed, Run, is_out, is_withdrawal, latest, outs, put_up, then}
+use Rattle.timetable_post.specs.Days.{CarriesOn, Day, DepotsDay, Explains, Marked, is_out, is_withdrawal, latest, outs, put_up, then}
 
 -- an accepted notice is about an event
 accepted_known : (n : ℕ) (out : Bool) (k : Notice) (e : ℕ) (u : Unit {0}) → Ok u ≡ judged (notice_rules n out k e) tt → e < n

@@ -18,7 +18,7 @@
 --                          them; a withdrawal finds it in force, and a reinstatement out of force
 --     noted k r e marks    the marks after a notice: that of e is set or taken away if it was accepted
 --     Does es marks c marks'   what a call with its answer does: it is answered by the marks, and leaves marks'
-use Rattle.std.specs.Prelude.{◌≡◌, ℕ, Bool, true, false, not, List, [], ◌∷◌, ◌++◌, length, set, Some, Ok, Err, count_by, Result, nat_lt, slice_index_or, slice_set}
+use Rattle.std.specs.Prelude.{◌≡◌, ℕ, Bool, true, false, not, List, [], ◌∷◌, ◌++◌, length, Some, Ok, Err, count_by, Result, nat_lt, slice_index_or, slice_set}
 use Rattle.faults.specs.declared.Fault.{Fault}
 use Rattle.faults.specs.declared.Fault.TheVariants.{NoJourney, NoticeWithoutEffect, UnknownEvent}
 use Rattle.faults.specs.Rules.{Kept, Rule, first_broken, judged}

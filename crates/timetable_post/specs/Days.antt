@@ -15,7 +15,7 @@
 --     DepotsDay            over every source's list of events, after every such run, the empty one included: every
 --                          call got what it was owed, and an event's mark is set exactly where the latest
 --                          accepted notice about it was a withdrawal
-use Rattle.std.specs.Prelude.{◌≡◌, ℕ, Bool, true, false, cond, not, List, [], ◌∷◌, length, replicate, Some, None, Ok, Err, count_by, Option, ◌==◌, slice_index_or}
+use Rattle.std.specs.Prelude.{◌≡◌, ℕ, Bool, false, cond, not, List, [], ◌∷◌, length, replicate, Some, None, Ok, Err, count_by, Option, ◌==◌, slice_index_or}
 use Rattle.std.specs.List.{range_with_len}
 use Rattle.faults.specs.Rules.{judged}
 use Rattle.records.specs.declared.event.Event.{Event}

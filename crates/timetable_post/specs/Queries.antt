@@ -9,7 +9,7 @@
 --     Queried .. b r a     answered: as above; marks: these are as found; refused: where a check is not passed
 --                          everything is as found; read: else the source's list is the same, and its place is how
 --                          many events were read; does, day: what the depot's day says of it
-use Rattle.std.specs.Prelude.{◌≡◌, ℕ, Bool, ◌⊎◌, List, length, Some, Ok, Err, Result}
+use Rattle.std.specs.Prelude.{◌≡◌, ℕ, Bool, ◌⊎◌, List, Some, Ok, Err, Result}
 use Rattle.faults.specs.declared.Fault.{Fault}
 use Rattle.faults.specs.declared.Fault.TheVariants.{NoJourney}
 use Rattle.faults.specs.Rules.{Kept, Rule, first_broken}

@@ -1,4 +1,6 @@
 // The post: one source, notices about its events, and queries over those in force.
+#![tactic(auto)]
+
 mod ask;
 mod calls;
 mod day;

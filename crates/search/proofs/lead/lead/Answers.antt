@@ -1,7 +1,7 @@
-use Rattle.std.proofs.Common.{sym, ◌∙◌, subst, arith}
+use Rattle.std.proofs.Common.{sym, ◌∙◌, subst}
 use Rattle.measures.specs.Measures.{◌≼◌}
 use Rattle.std.proofs.lemmas.Bool.{both_ways}
-use Rattle.search.specs.Readings.{Ends, Leads, scored}
+use Rattle.search.specs.Readings.{Leads, scored}
 use Rattle.search.proofs.Leading.{leads_first, leads_kept, leads_lower, leads_still}
 use Rattle.search.proofs.lead.lead.Goals as goal
 
