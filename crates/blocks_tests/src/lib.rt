@@ -1,4 +1,6 @@
 // Tests of records, blocks and loads: tables of damage, each with the fault that it meets.
+#![tactic(auto)]
+
 use blocks::{Block, Load};
 use faults::{Fault, Report};
 use records::{Event, read, write};

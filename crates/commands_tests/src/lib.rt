@@ -1,4 +1,6 @@
 // Tests of commands: lines with the places at which they stop being one, and commands there and back.
+#![tactic(auto)]
+
 use commands::{Command, Criterion, LONGEST_TEXT, parse, write};
 use faults::Report;
 use journeys::Query;

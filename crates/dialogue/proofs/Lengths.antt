@@ -1,5 +1,5 @@
 -- The line of a reply is never longer than 8,192 bytes.
-use Rattle.std.proofs.Common.{◌≡◌, ℕ, zero, suc, ◌+◌, ◌*◌, ◌^◌, ◌<◌, ◌≤◌, Bool, true, false, cond, not, ◌&&◌, eqb, ltb, leb, ◌⊎◌, List, [], ◌∷◌, ◌++◌, length, get_or, Some, None, Ok, Err, codes, decimal, Option, Result, sym, refl, ap, ◌∙◌, subst, inl, inr, add-mul, one-mul, arith}
+use Rattle.std.proofs.Common.{◌≡◌, ℕ, ◌+◌, ◌*◌, ◌^◌, ◌<◌, ◌≤◌, Bool, true, false, cond, not, ◌&&◌, eqb, ltb, leb, List, [], ◌∷◌, ◌++◌, length, get_or, Some, None, Ok, Err, codes, decimal, Result, sym, ap, subst, inl, inr, add-mul, arith}
 use Rattle.std.proofs.lemmas.Fmt.{length-decimal-le}
 use Rattle.std.proofs.ByRecursion.{All-weaker}
 use Rattle.std.proofs.lemmas.List.{length-append}
@@ -18,7 +18,7 @@ use Rattle.journeys.specs.Journeys.{Chained}
 use Rattle.journeys.specs.Verdicts.{in_force}
 use Rattle.journeys.proofs.Spans.{journey_span}
 use Rattle.search.specs.declared.answer.Answer.{Answer}
-use Rattle.search.specs.Searches.{Named, answer_of, named, reads_of}
+use Rattle.search.specs.Searches.{Named, named}
 use Rattle.steps.proofs.Somes.{some_same}
 use Rattle.commands.specs.declared.command.Command.{Command}
 use Rattle.commands.specs.declared.command.Command.TheVariants.{Find, Reinstate, Tally, Withdraw}

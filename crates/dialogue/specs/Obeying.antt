@@ -14,7 +14,7 @@
 --                          measure of the letter
 --     Interprets b line reply a   a line that spells a command is obeyed; any other is refused with 11, and everything
 --                          is as found; the reply's line has 8,192 bytes at most
-use Rattle.std.specs.Prelude.{◌≡◌, ℕ, ◌≤◌, Bool, List, length, pos, ◌-ℤ◌, Ok, Err, Option, Result}
+use Rattle.std.specs.Prelude.{◌≡◌, ℕ, ◌≤◌, Bool, List, length, pos, ◌-ℤ◌, Ok, Err, Result}
 use Rattle.faults.specs.declared.Fault.{Fault}
 use Rattle.records.specs.declared.event.Event.{Event}
 use Rattle.measures.specs.Measures.{Ops, Score}

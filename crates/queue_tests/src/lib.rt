@@ -1,3 +1,5 @@
+#![tactic(auto)]
+
 // Tests of the queue on random calls, and a count of its comparisons.
 #[cfg(test)]
 mod counted;

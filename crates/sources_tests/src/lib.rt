@@ -1,4 +1,6 @@
 // Tests of sources: blocks of events and of lines, opened, damaged, read through and read again.
+#![tactic(auto)]
+
 use faults::{Fault, Report};
 use lines::LineSource;
 use records::Event;

@@ -1,8 +1,8 @@
 -- All journeys that fit, by a list of all rising lists: sound and complete for the definition.
-use Rattle.std.proofs.Common.{◌≡◌, ℕ, zero, suc, ◌+◌, ◌<◌, ◌≤◌, Bool, true, false, cond, not, ◌&&◌, ◌||◌, eqb, ltb, leb, List, [], ◌∷◌, ◌++◌, map, length, ℤ, ◌≤ℤ◌, ◌<ℤ◌, Decides, sym, refl, ap, ◌∙◌, subst, inl, inr, ⊎_elim, arith}
-use lib.Signed.{le_z, lt_z}
+use Rattle.std.proofs.Common.{◌≡◌, ℕ, zero, suc, ◌+◌, ◌<◌, ◌≤◌, Bool, true, false, cond, not, ◌&&◌, ◌||◌, eqb, ltb, leb, List, [], ◌∷◌, ◌++◌, map, length, ℤ, ◌≤ℤ◌, ◌<ℤ◌, Decides, sym, refl, subst, inl, inr, ⊎_elim, arith}
+use lib.Signed.{lt_z}
 use Rattle.std.proofs.lemmas.Int.{ints}
-use Rattle.std.proofs.lemmas.Bool.{and_from, and_parts, cases_order, eq-eqb, eqb-true, le-leb, leb-true, lt-ltb, ltb-true, both_ways, cases_Bool, not-true, or_cases}
+use Rattle.std.proofs.lemmas.Bool.{and_from, and_parts, cases_order, le-leb, leb-true, both_ways, cases_Bool, not-true, or_cases}
 use Rattle.std.proofs.lemmas.Bool.Decides.{Decides-and, Decides-eqb, Decides-ltb}
 use Rattle.std.specs.List.{AllByRecursion as All}
 use Rattle.records.specs.declared.event.Event.{Event}
@@ -11,7 +11,7 @@ use Rattle.measures.specs.Measures.{Ops, Score, ◌≼◌}
 use Rattle.journeys.specs.declared.query.Query.{Query}
 use Rattle.journeys.specs.Best.{Best, Least, NothingFits}
 use Rattle.journeys.specs.Formulas.{score_of}
-use Rattle.journeys.specs.Journeys.{Before, Chained, Fits, Journey, Link, beginning, ending, final, first, leaves, numbered, openings, reaches, ready, rides}
+use Rattle.journeys.specs.Journeys.{Before, Chained, Fits, Link, beginning, ending, final, first, leaves, numbered, openings, reaches, ready, rides}
 
 -- a test of every element, and what it says
 abbrev every : {X : Type 0} → (X → Bool) → List X → Bool

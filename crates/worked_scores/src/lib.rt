@@ -1,4 +1,6 @@
 // The worked day, whose best scores are computed from the definitions.
+#![tactic(auto)]
+
 ghost use Rattle.std.specs.Prelude.{◌≡◌};
 ghost use Rattle.worked_scores.specs.Day.{day, DayScores};
 ghost use Rattle.records.specs.declared.event.Event.TheVariants.{Ride};

@@ -1,4 +1,4 @@
-use Rattle.std.proofs.Common.{◌≡◌, refl, ap, subst, arith}
+use Rattle.std.proofs.Common.{refl, ap, subst, arith}
 use Rattle.replies.specs.declared.reply.Reply.TheVariants.{Refused}
 use Rattle.dialogue.specs.Obeying.{Obeys, desk}
 use Rattle.dialogue.proofs.Lengths.{obeys_short, unknown_line_short}
