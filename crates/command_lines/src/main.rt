@@ -1,4 +1,6 @@
 // Answers each line of standard input with the text of the command that it spells, or with its fault.
+#![tactic(auto)]
+
 use commands::{Command, LONGEST_TEXT, parse, write};
 use faults::Fault;
 use std::alloc::Global;

@@ -4,6 +4,8 @@
 //     r FROM TO DEPARTURE DURATION     its next event, a ride
 //     x NUMBER                         the event with this number is out of force
 //     j FROM TO OPEN CLOSE CALL STEP.. prints 'none', or begin, end, riding, rides and the six scores
+#![tactic(auto)]
+
 use anyhow::anyhow;
 use journeys::{Query, Verdict, judge};
 use measures::{

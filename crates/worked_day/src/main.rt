@@ -1,4 +1,6 @@
 // Takes the worked day through records, a load and a source, beside two lines, shows what a damaged copy meets, and judges its best journeys.
+#![tactic(auto)]
+
 ghost use Rattle.std.specs.Prelude.{map, IfOk};
 ghost use Rattle.blocks.specs.Loads.{Filled};
 ghost use Rattle.records.specs.Layout.{layout};

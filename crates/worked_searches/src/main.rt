@@ -1,4 +1,6 @@
 // Finds the best journeys of the worked day by searches, in tables that are exactly long enough for it.
+#![tactic(auto)]
+
 use faults::Fault;
 use journeys::{Query, Verdict};
 use measures::{
