@@ -1,4 +1,6 @@
 // The program of a post: opens `day.tt` as records, and answers each line of standard input with one line.
+#![tactic(auto)]
+
 mod tables;
 
 use anyhow::anyhow;

@@ -1,3 +1,5 @@
+#![tactic(auto)]
+
 // Tests of a post: notices, queries and refusals, over lines, over records and over no event.
 #[cfg(test)]
 mod asking;

@@ -5,6 +5,8 @@
 //     x NUMBER                         the event with this number is out of force
 //     q FROM TO OPEN CLOSE CALL        prints the best score under e, l, f, s, n and c, or its refusal
 // A score is printed as 'first;second', or 'none' where no journey fits, or 'wrong' where the answer does not hold.
+#![tactic(auto)]
+
 mod best;
 mod day;
 mod tables;
