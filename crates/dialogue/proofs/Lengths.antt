@@ -4,7 +4,7 @@ use Rattle.std.proofs.lemmas.Fmt.{length-decimal-le}
 use Rattle.std.proofs.ByRecursion.{All-weaker}
 use Rattle.std.proofs.lemmas.List.{length-append}
 use Rattle.std.proofs.lemmas.List.Sums.{count_by-le-length}
-use Rattle.std.specs.List.{AllByRecursion as All}
+use Rattle.std.specs.List.{AllByRecursion}
 use Rattle.faults.specs.declared.Fault.{Fault}
 use Rattle.faults.specs.declared.Fault.TheVariants.{BadWindow, EqualQueryStops, NoJourney, NotACommand, NoticeWithoutEffect, StepTableTooShort, UnknownEvent, WorkTableTooShort}
 use Rattle.faults.specs.Numbered.{reported}
@@ -33,7 +33,7 @@ use Rattle.timetable_post.specs.Queries.{Answered, Handed}
 use Rattle.dialogue.specs.Obeying.{Asks, Desk, Notices, Obeys, by_number, by_trip, notice_reply, query_reply}
 
 -- numbers of at most k digits take k + 1 bytes each
-length-numbers : (k : ℕ) → 0 < k → (ns : List ℕ) → All (λ n. (n < 10 ^ k) × (n < 2 ^ 64)) ns → length (numbers ns) ≤ length ns * (k + 1)
+length-numbers : (k : ℕ) → 0 < k → (ns : List ℕ) → AllByRecursion (λ n. (n < 10 ^ k) × (n < 2 ^ 64)) ns → length (numbers ns) ≤ length ns * (k + 1)
 length-numbers k p [] a = omega arith
 length-numbers k p (n ∷ ns) a =
     let here = length-decimal-le k n p a.0.0 a.0.1 in
@@ -42,11 +42,11 @@ length-numbers k p (n ∷ ns) a =
     omega (arith, length-append (decimal n) (numbers ns), here, rest, one)
 
 -- rising numbers from m on and below n
-rising_from : (n m : ℕ) (js : List ℕ) → Chained ◌<◌ (m ∷ js) → All (λ j. j < n) (m ∷ js) → length js + m < n
+rising_from : (n m : ℕ) (js : List ℕ) → Chained ◌<◌ (m ∷ js) → AllByRecursion (λ j. j < n) (m ∷ js) → length js + m < n
 rising_from n m [] c a = omega (arith, a.0)
 rising_from n m (j ∷ js) c a = omega (arith, rising_from n j js c.1 a.1, c.0)
 
-rising_few : (n : ℕ) (js : List ℕ) → Chained ◌<◌ js → All (λ j. j < n) js → length js ≤ n
+rising_few : (n : ℕ) (js : List ℕ) → Chained ◌<◌ js → AllByRecursion (λ j. j < n) js → length js ≤ n
 rising_few n [] c a = omega arith
 rising_few n (j ∷ js) c a = omega (arith, rising_from n j js c a)
 
@@ -57,7 +57,7 @@ Small f = ((reported f).number < 100) × ((reported f).layer < 100) × ((reporte
 refused_short : (f : Fault) (steps : List ℕ) → Small f → length (printed (Refused f) steps) ≤ 8192
 refused_short f steps s =
     let r = reported f in
-    let all : All (λ n. (n < 10 ^ 20) × (n < 2 ^ 64)) (r.number ∷ r.layer ∷ r.place ∷ []) =
+    let all : AllByRecursion (λ n. (n < 10 ^ 20) × (n < 2 ^ 64)) (r.number ∷ r.layer ∷ r.place ∷ []) =
     ((omega (arith, s.0), omega (arith, s.0)), ((omega (arith, s.1), omega (arith, s.1)), ((omega (arith, s.2), s.2), tt))) in
     omega (
       arith,
@@ -92,7 +92,7 @@ rule_small true true false d f h = subst Small (some_same h) (omega arith, omega
 rule_small true true true false f h = subst Small (some_same h) (omega arith, omega arith, omega arith)
 rule_small true true true true f h = let z : ◌≡◌ {A = ℕ} 0 1 = cc in absurd (omega arith)
 
-line_short : (b e r k : ℕ) (js : List ℕ) → b < 10 ^ 6 → e < 10 ^ 6 → r < 10 ^ 6 → k < 10 ^ 6 → All (λ j. j < 1024) js → length js ≤ 1024 → length (codes "go" ++ (numbers (b ∷ e ∷ r ∷ k ∷ []) ++ (codes " :" ++ (numbers js ++ newline)))) ≤ 8192
+line_short : (b e r k : ℕ) (js : List ℕ) → b < 10 ^ 6 → e < 10 ^ 6 → r < 10 ^ 6 → k < 10 ^ 6 → AllByRecursion (λ j. j < 1024) js → length js ≤ 1024 → length (codes "go" ++ (numbers (b ∷ e ∷ r ∷ k ∷ []) ++ (codes " :" ++ (numbers js ++ newline)))) ≤ 8192
 line_short b e r k js hb he hr hk all few =
     let told = length-numbers 6 (omega arith) (b ∷ e ∷ r ∷ k ∷ []) ((hb, omega arith), ((he, omega arith), ((hr, omega arith), ((hk, omega arith), tt)))) in
     let walked = length-numbers 4 (omega arith) js (All-weaker (λ j. j < 1024) (λ j. (j < 10 ^ 4) × (j < 2 ^ 64)) (λ j h. (omega arith, omega arith)) js all) in

@@ -2,7 +2,7 @@
 use Rattle.std.proofs.Common.{◌≡◌, ℕ, ◌+◌, ◌<◌, ◌≤◌, true, List, [], ◌∷◌, map, length, get_or, ⊎_elim, arith}
 use Rattle.std.proofs.lemmas.List.Sorted.{IsNonDecreasingBy-from_all_adjacent}
 use Rattle.std.proofs.lemmas.Bool.{cases_lt, leb-true, ltb-true}
-use Rattle.std.specs.List.{AllByRecursion as All}
+use Rattle.std.specs.List.{AllByRecursion}
 use Rattle.records.specs.declared.event.Event.{Event}
 use Rattle.records.specs.declared.event.Event.TheVariants.{Opening, Ride}
 use Rattle.records.specs.Events.{Listed, in_order, time_of}
@@ -10,12 +10,12 @@ use Rattle.journeys.specs.Journeys.{Chained, numbered}
 
 -- from one relation of neighbours to another
 module _ {X Y : Type 0} (P : X → Type 0) (R : X → X → Type 0) (f : X → Y) (S : Y → Y → Type 0) where
-  pub chained_map : ((x y : X) → P x → P y → R x y → S (f x) (f y)) → (xs : List X) → All P xs → Chained R xs → Chained S (map f xs)
+  pub chained_map : ((x y : X) → P x → P y → R x y → S (f x) (f y)) → (xs : List X) → AllByRecursion P xs → Chained R xs → Chained S (map f xs)
   chained_map h [] a c = tt
   chained_map h (x ∷ []) a c = (tt, tt)
   chained_map h (x ∷ y ∷ ys) a c = (h x y a.0 a.1.0 c.0, chained_map h (y ∷ ys) a.1 c.1)
 
-  pub map_chained : ((x y : X) → P x → P y → S (f x) (f y) → R x y) → (xs : List X) → All P xs → Chained S (map f xs) → Chained R xs
+  pub map_chained : ((x y : X) → P x → P y → S (f x) (f y) → R x y) → (xs : List X) → AllByRecursion P xs → Chained S (map f xs) → Chained R xs
   map_chained h [] a c = tt
   map_chained h (x ∷ []) a c = (tt, tt)
   map_chained h (x ∷ y ∷ ys) a c = (h x y a.0 a.1.0 c.0, map_chained h (y ∷ ys) a.1 c.1)

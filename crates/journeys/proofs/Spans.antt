@@ -2,7 +2,7 @@
 use Rattle.std.proofs.Common.{◌≡◌, ℕ, ◌+◌, ◌<◌, ◌≤◌, Bool, true, not, ◌&&◌, eqb, leb, List, [], ◌∷◌, length, refl, arith}
 use Rattle.std.proofs.ByRecursion.{All-get_or}
 use Rattle.std.proofs.lemmas.Bool.{and_parts, leb-true}
-use Rattle.std.specs.List.{AllByRecursion as All}
+use Rattle.std.specs.List.{AllByRecursion}
 use Rattle.faults.proofs.Rules.{kept_parts}
 use Rattle.records.specs.declared.event.Event.{Event}
 use Rattle.records.specs.declared.event.Event.TheVariants.{Opening, Ride}
@@ -54,11 +54,11 @@ module _ (es : List Event) (p : ℕ → Bool) (listed : Listed es) where
   pub known_within : (j : ℕ) → Known j → Within (numbered es j)
   known_within j k = All-get_or Within es j (Opening 0 0) k.0 listed.within
 
-  pub known_final : (j : ℕ) (js : List ℕ) → All Known (j ∷ js) → Known (final_from j js)
+  pub known_final : (j : ℕ) (js : List ℕ) → AllByRecursion Known (j ∷ js) → Known (final_from j js)
   known_final j [] a = a.0
   known_final j (k ∷ ks) a = known_final k ks a.1
 
-  rides-riding : (js : List ℕ) → All Known js → rides es js ≤ riding es js
+  rides-riding : (js : List ℕ) → AllByRecursion Known js → rides es js ≤ riding es js
   rides-riding [] a = omega arith
   rides-riding (j ∷ js) a = omega (arith, within_ride (numbered es j) (known_within j a.0), rides-riding js a.1)
 

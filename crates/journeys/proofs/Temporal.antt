@@ -1,6 +1,6 @@
 -- Journeys without a call are the temporal walks within the window.
 use Rattle.std.proofs.Common.{◌≡◌, ℕ, ◌+◌, ◌<◌, ◌≤◌, Bool, true, false, cond, List, [], ◌∷◌, length, sym, refl, ap, ◌∙◌, arith}
-use Rattle.std.specs.List.{AllByRecursion as All}
+use Rattle.std.specs.List.{AllByRecursion}
 use Rattle.records.specs.declared.event.Event.{Event}
 use Rattle.records.specs.declared.event.Event.TheVariants.{Opening, Ride}
 use Rattle.records.specs.Events.{Listed, time_of}
@@ -33,11 +33,11 @@ module _ (es : List Event) where
   abbrev Edge : ℕ → Type 0
   Edge j = one_if_ride (numbered es j) ≡ 1
 
-  all_edges : (js : List ℕ) → openings es js ≡ 0 → All Edge js
+  all_edges : (js : List ℕ) → openings es js ≡ 0 → AllByRecursion Edge js
   all_edges [] h = tt
   all_edges (j ∷ js) h = (omega (arith, one_kind (numbered es j)), all_edges js (omega arith))
 
-  no_openings : (js : List ℕ) → All Edge js → openings es js ≡ 0
+  no_openings : (js : List ℕ) → AllByRecursion Edge js → openings es js ≡ 0
   no_openings [] a = refl
   no_openings (j ∷ js) a = omega (arith, one_kind (numbered es j), a.0, no_openings js a.1)
 
@@ -59,7 +59,7 @@ module _ (es : List Event) where
       let d = same_edge (numbered es k) in
       (sym c.heads ∙ l.0 ∙ d.tails, omega (arith, c.passed, d.starts, l.1))
 
-  some_ride : (js : List ℕ) → 0 < length js → All Edge js → 1 ≤ rides es js
+  some_ride : (js : List ℕ) → 0 < length js → AllByRecursion Edge js → 1 ≤ rides es js
   some_ride [] h a = absurd (omega arith)
   some_ride (j ∷ js) h a = omega (arith, a.0)
 
@@ -67,7 +67,7 @@ module _ (es : List Event) where
   some_event [] h = absurd (omega arith)
   some_event (j ∷ js) h = omega arith
 
-all_both : (P Q : ℕ → Type 0) (js : List ℕ) → All P js → All Q js → All (λ j. P j × Q j) js
+all_both : (P Q : ℕ → Type 0) (js : List ℕ) → AllByRecursion P js → AllByRecursion Q js → AllByRecursion (λ j. P j × Q j) js
 all_both P Q [] a b = tt
 all_both P Q (j ∷ js) a b = ((a.0, b.0), all_both P Q js a.1 b.1)
 

@@ -25,7 +25,7 @@
 --     Fits es p q js   such a journey, that begins and ends within the window
 --     WaitingIsGaps    what a journey waits is the sum of its gaps
 use Rattle.std.specs.Prelude.{◌≡◌, ℕ, ◌+◌, ◌-◌, ◌<◌, ◌≤◌, Bool, true, cond, List, [], ◌∷◌, length, slice_index_or}
-use Rattle.std.specs.List.{AllByRecursion as All}
+use Rattle.std.specs.List.{AllByRecursion}
 use Rattle.records.specs.declared.event.Event.{Event}
 use Rattle.records.specs.declared.event.Event.TheVariants.{Opening, Ride}
 use Rattle.records.specs.Events.{time_of}
@@ -115,7 +115,7 @@ gaps es [] = 0
 gaps es (j ∷ js) = gaps_from es j js
 
 pub record Journey (es : List Event) (p : ℕ → Bool) (q : Query) (js : List ℕ) : Type 0 where
-  pub known : All (λ j. (j < length es) × (p j ≡ true)) js
+  pub known : AllByRecursion (λ j. (j < length es) × (p j ≡ true)) js
   pub rising : Chained ◌<◌ js
   pub linked : Chained (Link es) js
   pub ridden : 1 ≤ rides es js

@@ -7,7 +7,7 @@
 --     totals_of es js      riding, rides and openings of js
 --     Asked q d e t        a chain with these totals, of which d is the first event and e the last, is what q asks for
 use Rattle.std.specs.Prelude.{◌≡◌, ℕ, ◌<◌, ◌≤◌, Bool, true, false, cond, not, List, [], ◌∷◌, length, Option, MatchOption, slice_index_or}
-use Rattle.std.specs.List.{AllByRecursion as All}
+use Rattle.std.specs.List.{AllByRecursion}
 use Rattle.records.specs.declared.event.Event.{Event}
 use Rattle.records.specs.Events.{time_of}
 use Rattle.measures.specs.Measures.{Ops}
@@ -34,7 +34,7 @@ abbrev pub Judged : {L : Type 0} → Ops L → List Event → (ℕ → Bool) →
 Judged m es p q js r = MatchOption r (Fits es p q js → ⊥) (λ v. Fits es p q js × (v ≡ verdict_of m es js))
 
 pub record Chain (es : List Event) (p : ℕ → Bool) (js : List ℕ) : Type 0 where
-  pub known : All (λ j. (j < length es) × (p j ≡ true)) js
+  pub known : AllByRecursion (λ j. (j < length es) × (p j ≡ true)) js
   pub rising : Chained ◌<◌ js
   pub linked : Chained (Link es) js
 

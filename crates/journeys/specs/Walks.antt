@@ -10,7 +10,7 @@
 --     WalksAreJourneys     in every timetable's list, the journeys without a call that fit are exactly
 --                          the temporal walks within the window
 use Rattle.std.specs.Prelude.{◌≡◌, ℕ, ◌+◌, ◌<◌, ◌≤◌, Bool, true, false, List, map, length}
-use Rattle.std.specs.List.{AllByRecursion as All}
+use Rattle.std.specs.List.{AllByRecursion}
 use Rattle.records.specs.declared.event.Event.{Event}
 use Rattle.records.specs.declared.event.Event.TheVariants.{Opening, Ride}
 use Rattle.records.specs.Events.{Listed}
@@ -32,8 +32,8 @@ TemporalWalk ds = Chained (λ c d. (c.head ≡ d.tail) × (c.start + c.duration 
 
 pub record WalkInWindow (es : List Event) (p : ℕ → Bool) (q : Query) (js : List ℕ) : Type 0 where
   pub some : 0 < length js
-  pub known : All (λ j. (j < length es) × (p j ≡ true)) js
-  pub edges : All (λ j. one_if_ride (numbered es j) ≡ 1) js
+  pub known : AllByRecursion (λ j. (j < length es) × (p j ≡ true)) js
+  pub edges : AllByRecursion (λ j. one_if_ride (numbered es j) ≡ 1) js
   pub walk : TemporalWalk (map (λ j. edge_of (numbered es j)) js)
   pub from : (edge_of (numbered es (first js))).tail ≡ q.from
   pub to : (edge_of (numbered es (final js))).head ≡ q.to

@@ -6,7 +6,7 @@ use Rattle.std.proofs.lemmas.List.Sums.{sum_by-cons, sum_by_push}
 use Rattle.std.proofs.lemmas.Bool.{cases_eq, cases_lt, ne_eqb}
 use Rattle.std.proofs.lemmas.Bool.Decides.{nat_tests}
 use Rattle.std.specs.Option.{option_to_list}
-use Rattle.std.specs.List.{AllByRecursion as All}
+use Rattle.std.specs.List.{AllByRecursion}
 use Rattle.faults.specs.declared.Fault.{Fault}
 use Rattle.queue.specs.Order.{Heaped}
 use Rattle.queue.specs.Queue.{Empty, Putting, Taken, held}
@@ -123,11 +123,11 @@ head_found x (c ∷ cs) i h =
 abbrev pub sooner : Departure → Departure → ℕ
 sooner x y = bit (before y x)
 
-pub none_sooner : (x : Departure) (ys : List Departure) → All (λ y. before y x ≡ false) ys → sum_by (sooner x) ys ≡ 0
+pub none_sooner : (x : Departure) (ys : List Departure) → AllByRecursion (λ y. before y x ≡ false) ys → sum_by (sooner x) ys ≡ 0
 none_sooner x [] h = refl
 none_sooner x (y ∷ ys) h = sum_by-cons (sooner x) y ys ∙ omega (arith, ap bit h.0, none_sooner x ys h.1)
 
-pub all_from_none : (x : Departure) (ys : List Departure) → sum_by (sooner x) ys ≡ 0 → All (λ y. before y x ≡ false) ys
+pub all_from_none : (x : Departure) (ys : List Departure) → sum_by (sooner x) ys ≡ 0 → AllByRecursion (λ y. before y x ≡ false) ys
 all_from_none x [] h = tt
 all_from_none x (y ∷ ys) h =
     let s = sum_by-cons (sooner x) y ys in (bit_zero (before y x) (omega arith), all_from_none x ys (omega arith))
@@ -164,7 +164,7 @@ module _ (cs : List Cursor) (slots : List Departure) (used : ℕ) (bag : (f : De
         let e : r.0 ≡ x.line = omega (arith, r.1) in
         (omega (arith, r.2), subst (λ k. next_of x.line (get_or cs k no_cursor) ≡ Some x) e r.3)
 
-    pub least_left : Heaped before (held slots used) → All (λ y. before y x ≡ false) (lefts cs)
+    pub least_left : Heaped before (held slots used) → AllByRecursion (λ y. before y x ≡ false) (lefts cs)
     least_left h =
         all_from_none x (lefts cs)
         (gather_zero (λ j c. option_to_list (next_of j c)) (sooner x) left_of (λ i c. left_late x i c.minute c.interval c.left) 0 cs

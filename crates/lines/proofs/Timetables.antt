@@ -7,7 +7,7 @@ use Rattle.std.proofs.lemmas.List.Sorted.{length_permutation}
 use Rattle.std.proofs.lemmas.List.Sums.{sum_by-cons}
 use Rattle.std.proofs.lemmas.Bool.{le-leb}
 use Rattle.std.proofs.lemmas.Bool.Decides.{nat_tests}
-use Rattle.std.specs.List.{AllByRecursion as All}
+use Rattle.std.specs.List.{AllByRecursion}
 use Rattle.faults.specs.declared.Fault.TheVariants.{EqualStops, DurationOutOfRange, TimeOutOfRange}
 use Rattle.faults.proofs.Rules.{kept_both}
 use Rattle.records.specs.declared.event.Event.{Event}
@@ -117,7 +117,7 @@ within_ride l m r h = (
   (r.leaving, r.reaching),
 )
 
-run_facts : (m v i n : ℕ) → All (λ d. (d.line ≡ i) × (d.minute + v ≤ m + n * v)) (run_from m v i n)
+run_facts : (m v i n : ℕ) → AllByRecursion (λ d. (d.line ≡ i) × (d.minute + v ≤ m + n * v)) (run_from m v i n)
 run_facts m v i zero = tt
 run_facts m v i (suc n) =
     let s = suc-mul n v in (
@@ -127,14 +127,14 @@ run_facts m v i (suc n) =
     )
 
 all_gather : {X : Type 0} (P : Departure → Type 0) (g : ℕ → X → List Departure) (x₀ : X) (xs : List X) (i : ℕ)
-    → ((k j : ℕ) → i + k ≡ j → k < length xs → All P (g j (get_or xs k x₀))) → All P (gather g i xs)
+    → ((k j : ℕ) → i + k ≡ j → k < length xs → AllByRecursion P (g j (get_or xs k x₀))) → AllByRecursion P (gather g i xs)
 all_gather P g x₀ [] i h = tt
 all_gather P g x₀ (x ∷ xs) i h =
     All-append P (g i x) (gather g (i + 1) xs) (h zero i (omega arith) (omega arith))
     (all_gather P g x₀ xs (i + 1) (λ k j e l. h (suc k) j (omega arith) (omega arith)))
 
 module _ (ls : List Line) where
-  pub within_events : ((k : ℕ) → k < length ls → Regular (get_or ls k no_line)) → All Within (events_on ls)
+  pub within_events : ((k : ℕ) → k < length ls → Regular (get_or ls k no_line)) → AllByRecursion Within (events_on ls)
   within_events regular =
       let P : Departure → Type 0 = λ d. Within (ride_on ls d) in
       All-map Within (ride_on ls) (departures ls)

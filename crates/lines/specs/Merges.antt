@@ -13,7 +13,7 @@
 -- Two lists with equal sums, whatever is summed, are rearrangements of each other.
 use Rattle.std.specs.Prelude.{◌≡◌, ℕ, ◌+◌, ◌-◌, ◌*◌, ◌<◌, ◌≤◌, false, cond, List, [], length, Some, None, sum_by, Option, ◌==◌}
 use Rattle.std.specs.Option.{option_to_list}
-use Rattle.std.specs.List.{AllByRecursion as All}
+use Rattle.std.specs.List.{AllByRecursion}
 use Rattle.queue.specs.Order.{Heaped}
 use Rattle.queue.specs.Queue.{held}
 use Rattle.lines.specs.declared.cursor.Cursor.{Cursor}
@@ -62,7 +62,7 @@ pub record Filled (cs : List Cursor) (slots : List Departure) (used : ℕ) : Typ
 
 pub record Drew (ds : List Departure) (x : Departure) (ds' : List Departure) : Type 0 where
   pub bag : (f : Departure → ℕ) → sum_by f ds ≡ f x + sum_by f ds'
-  pub least : All (λ y. before y x ≡ false) ds
+  pub least : AllByRecursion (λ y. before y x ≡ false) ds
   pub known : x.line < 32
 
 abbrev pub Drawn : List Departure → Option Departure → List Departure → Type 0

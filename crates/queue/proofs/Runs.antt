@@ -1,7 +1,7 @@
 -- Calls that meet their contracts are answered as by a priority queue. Assumes nothing.
 use Rattle.std.proofs.Common.{◌≡◌, ℕ, ◌≤◌, Bool, false, List, [], ◌∷◌, ◌++◌, map, length, Some, None, Ok, Err, sym, refl, ◌∙◌, subst, arith}
 use Rattle.std.specs.List.Sorted.{IsPermutation}
-use Rattle.std.specs.List.{AllByRecursion as All}
+use Rattle.std.specs.List.{AllByRecursion}
 use Rattle.std.proofs.lemmas.List.{length-take, nil_from_length}
 use Rattle.std.proofs.lemmas.List.Sorted.{IsPermutation-cons, IsPermutation-refl, IsPermutation-sym, IsPermutation-to_front, IsPermutation-trans}
 use Rattle.std.proofs.ByRecursion.{all_shuffled}
@@ -69,7 +69,7 @@ module _ {X : Type 0} (before : X → X → Bool) where
       let next = held k.0 k.1 in
       let P : X → Type 0 = λ z. before z y ≡ false in
       let rest = drains k.0 k.1 ys slots' used' (step.heaped h) k.3 in
-      let later : All P (y ∷ next) = all_shuffled P (held slots used) (y ∷ next) step.bag (step.least h).none_before in
+      let later : AllByRecursion P (y ∷ next) = all_shuffled P (held slots used) (y ∷ next) step.bag (step.least h).none_before in
       ((all_shuffled P next ys rest.1 later.1, rest.0), IsPermutation-trans (held slots used) (y ∷ next) (y ∷ ys) step.bag (IsPermutation-cons y next ys rest.1))
 
   pub drained : (slots : List X) → Drained before slots

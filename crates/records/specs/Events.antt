@@ -7,7 +7,7 @@
 --                      follows a ride
 --     Listed es        a timetable's list of events: at most 1,024, each within the limits, in order
 use Rattle.std.specs.Prelude.{◌≡◌, ℕ, ◌+◌, ◌<◌, ◌≤◌, Bool, true, not, ◌&&◌, List, [], ◌∷◌, length, ◌==◌, nat_le, nat_lt}
-use Rattle.std.specs.List.{AllByRecursion as All, AllAdjacentBelow}
+use Rattle.std.specs.List.{AllByRecursion, AllAdjacentBelow}
 use Rattle.faults.specs.declared.Fault.TheVariants.{EqualStops, DurationOutOfRange, TimeOutOfRange}
 use Rattle.faults.specs.Rules.{Rule, Kept}
 use Rattle.records.specs.declared.event.Event.{Event}
@@ -39,5 +39,5 @@ in_order (Ride from to departure duration) (Ride f t m d) = nat_le departure m
 
 pub record Listed (es : List Event) : Type 0 where
   pub few : length es ≤ 1024
-  pub within : All Within es
+  pub within : AllByRecursion Within es
   pub ordered : AllAdjacentBelow (λ d e. in_order d e ≡ true) es (length es)

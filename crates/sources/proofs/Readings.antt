@@ -2,7 +2,7 @@
 use Rattle.std.proofs.Common.{◌≡◌, ℕ, ◌+◌, ◌-◌, ◌<◌, ◌≤◌, min, Bool, cond, List, [], ◌∷◌, ◌++◌, map, length, get_or, take, Some, None, count_by, Option, sym, refl, ap, ◌∙◌, ⊎_elim, arith}
 use Rattle.std.proofs.lemmas.List.{length-take, take_all}
 use Rattle.std.proofs.lemmas.List.Sums.{sum_by_more, count_by-le-length}
-use Rattle.std.proofs.lemmas.Option.{slice_get-get_or as nth-getD, slice_get_past as nth_past}
+use Rattle.std.proofs.lemmas.Option.{slice_get-get_or, slice_get_past}
 use Rattle.std.proofs.lemmas.Bool.{cases_lt}
 use Rattle.std.specs.List.{range_with_len, slice_get}
 use Rattle.records.specs.declared.event.Event.{Event}
@@ -18,17 +18,17 @@ pub record Midway (es : List Event) (r : Counts) (es' : List Event) (p : ℕ) : 
 -- a read that answers an event stands before the end
 pub before_end : (es : List Event) (p : ℕ) (e : Event) → Some e ≡ slice_get es p → p < length es
 before_end es p e h =
-    ⊎_elim (λ l. l) (λ l. let past = nth_past es p l in let z : ◌≡◌ {A = ℕ} 0 1 = cc in absurd (omega arith)) (cases_lt p (length es))
+    ⊎_elim (λ l. l) (λ l. let past = slice_get_past es p l in let z : ◌≡◌ {A = ℕ} 0 1 = cc in absurd (omega arith)) (cases_lt p (length es))
 
 -- and one that answers none, at the end
 pub at_end : (es : List Event) (p : ℕ) (d : Event) → None ≡ slice_get es p → length es ≤ p
 at_end es p d h =
-    ⊎_elim (λ l. let here = nth-getD es p d l in let z : ◌≡◌ {A = ℕ} 0 1 = cc in absurd (omega arith)) (λ l. l) (cases_lt p (length es))
+    ⊎_elim (λ l. let here = slice_get-get_or es p d l in let z : ◌≡◌ {A = ℕ} 0 1 = cc in absurd (omega arith)) (λ l. l) (cases_lt p (length es))
 
 counted_more : (p : Event → Bool) (es : List Event) (i : ℕ) (e : Event) → Some e ≡ slice_get es i → count_by p (take (i + 1) es) ≡ count_by p (take i es) + cond (p e) 1 0
 counted_more p es i e h =
     let l = before_end es i e h in
-    let here = nth-getD es i e l in
+    let here = slice_get-get_or es i e l in
     let is : get_or es i e ≡ e = cc in
     sum_by_more (λ x. cond (p x) 1 0) es i e l ∙ ap (λ x. count_by p (take i es) + cond (p x) 1 0) is
 
@@ -69,7 +69,7 @@ reading_falls es p e es' q h = omega (arith, before_end es p e h.item, h.step, a
 slice_get-min : (es : List Event) (p q : ℕ) → p ≡ min q (length es) → slice_get es p ≡ slice_get es q
 slice_get-min es p q m =
     ⊎_elim (λ l. let e : p ≡ q = omega arith in ap (slice_get es) e)
-    (λ l. nth_past es p (omega arith) ∙ sym (nth_past es q l)) (cases_lt q (length es))
+    (λ l. slice_get_past es p (omega arith) ∙ sym (slice_get_past es q l)) (cases_lt q (length es))
 
 -- reads from place q on, where a place behind the end is the end
 reads_from : (answers : List (Option Event)) (es ns : List Event) (p q : ℕ) (es' : List Event) (p' : ℕ) → ns ≡ es → p ≡ min q (length es)

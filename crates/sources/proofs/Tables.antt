@@ -4,7 +4,7 @@ use Rattle.std.proofs.ByRecursion.{All-get_or}
 use Rattle.std.proofs.lemmas.List.{get_or-take, length-take-le}
 use Rattle.std.proofs.lemmas.Option.{slice_get-get_or, slice_get_past}
 use Rattle.std.proofs.lemmas.Bool.{and_from, cases_lt, le-ltb, lt-ltb}
-use Rattle.std.specs.List.{AllByRecursion as All, slice_get}
+use Rattle.std.specs.List.{AllByRecursion, slice_get}
 use Rattle.faults.specs.Rules.{first_broken}
 use Rattle.records.specs.declared.event.Event.{Event}
 use Rattle.records.specs.declared.event.Event.TheVariants.{Opening, Ride}
@@ -19,7 +19,7 @@ test_from_within : (e : Event) → Within e → is_within e ≡ true
 test_from_within e h =
     and_from (not (is_some (first_broken (limits 0 e)))) (at_stops e) (rw h.0) (test_from_stops e h.1)
 
-pub tests_within : (es : List Event) → All Within es → (k : ℕ) (d : Event) → k < length es → is_within (get_or es k d) ≡ true
+pub tests_within : (es : List Event) → AllByRecursion Within es → (k : ℕ) (d : Event) → k < length es → is_within (get_or es k d) ≡ true
 tests_within es within k d h = test_from_within (get_or es k d) (All-get_or Within es k d h within)
 
 pub slice_get-filled : (table : List Event) (n i : ℕ) (d : Event) → n ≤ length table → cond (ltb i n) (Some (get_or table i d)) None ≡ slice_get (filled table n) i

@@ -6,7 +6,7 @@ ghost use Rattle.std.specs.List.{slice_get};
 ghost use Rattle.records.specs.declared.event.Event.{Event as Timed};
 ghost use Rattle.records.specs.Events.{in_order};
 ghost use Rattle.blocks.specs.Blocks.{opening};
-ghost use Rattle.blocks.specs.Views.{events as eventsIn};
+ghost use Rattle.blocks.specs.Views.{events as events_in};
 ghost use Rattle.sources.specs.Tables.{blank, filled, is_within};
 ghost use Rattle.sources.specs.Laws.{listed_from_tests};
 
@@ -36,15 +36,15 @@ pub struct RecordSource {
 
 // The event at a place of a block, a blank behind its end.
 fn event_or_blank(block: &Block, place: usize) -> Event
-    ensures { result ≡ unwrap_or (slice_get (eventsIn block.now) place) blank }
+    ensures { result ≡ unwrap_or (slice_get (events_in block.now) place) blank }
 {
     block.event(place).unwrap_or(BLANK)
 }
 
 // A table whose front is the block's events.
 fn copied(block: &Block) -> [Event; MOST_EVENTS]
-    requires { length (eventsIn block.now) ≤ 1024 }
-    ensures { filled result (length (eventsIn block.now)) ≡ eventsIn block.now }
+    requires { length (events_in block.now) ≤ 1024 }
+    ensures { filled result (length (events_in block.now)) ≡ events_in block.now }
 {
     let mut table = [BLANK; MOST_EVENTS];
     for place in 0..block.len() {

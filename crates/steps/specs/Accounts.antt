@@ -9,7 +9,7 @@
 --                          call state; near: entries are for events before k; queued, standing: what queue and
 --                          board hold are labels of entries; covered: every entry is awaited still, or overtaken
 use Rattle.std.specs.Prelude.{◌≡◌, ℕ, ◌<◌, ◌≤◌, Bool, true, ◌⊎◌, List, length, Some, None, Option}
-use Rattle.std.specs.List.{ContainsAt as Has, AllByRecursion as All}
+use Rattle.std.specs.List.{ContainsAt as Has, AllByRecursion}
 use Rattle.measures.specs.Measures.{Ops}
 use Rattle.queue.specs.Order.{Heaped}
 use Rattle.queue.specs.Queue.{Taken, held}
@@ -20,7 +20,7 @@ use Rattle.steps.specs.Arrivals.{sooner}
 use Rattle.steps.specs.Boards.{logged, stands}
 
 abbrev pub Later : ℕ → List Arrival → Type 0
-Later minute xs = All (λ a. minute < a.minute) xs
+Later minute xs = AllByRecursion (λ a. minute < a.minute) xs
 
 -- a due arrival was taken, or none is due and nothing changed
 abbrev pub Due : ℕ → List Arrival → ℕ → Option Arrival → List Arrival → ℕ → Type 0

@@ -3,7 +3,7 @@ use Rattle.std.proofs.Common.{◌≡◌, ℕ, ◌+◌, ◌<◌, ◌≤◌, Bool,
 use Rattle.std.proofs.ByRecursion.{All-push}
 use Rattle.std.proofs.lemmas.List.{append_assoc, append-nil, length-append}
 use Rattle.std.proofs.lemmas.Bool.{both_ways, cases_lt, or_right}
-use Rattle.std.specs.List.{AllByRecursion as All}
+use Rattle.std.specs.List.{AllByRecursion}
 use Rattle.records.specs.declared.event.Event.{Event}
 use Rattle.records.specs.declared.event.Event.TheVariants.{Opening, Ride}
 use Rattle.records.specs.Events.{Listed, Within, time_of}
@@ -41,7 +41,7 @@ next_rank (Ride a b t d) e w h k = omega arith
 -- what a walk is, by its list
 pub record Facts {L : Type 0} (m : Ops L) (es : List Event) (p : ℕ → Bool) (q : Query) (t : Traveller L) (js : List ℕ) : Type 0 where
   pub some : 0 < length js
-  pub known : All (Known es p) js
+  pub known : AllByRecursion (Known es p) js
   pub last_known : Known es p (final js)
   pub rising : Chained ◌<◌ js
   pub linked : Chained (Link es) js
@@ -168,7 +168,7 @@ module _ {L : Type 0} (m : Ops L) (es : List Event) (p : ℕ → Bool) (q : Quer
     ends : traveller.end ≡ end_of (numbered es (final_from j ks))
     calls : count traveller.called ≡ count b + openings es ks
 
-  onward : (ks : List ℕ) (t : Traveller L) (js : List ℕ) (j : ℕ) → Walk m es p q t js → t.stop ≡ reaches (numbered es j) → t.ready ≡ ready (numbered es j) → t.end ≡ end_of (numbered es j) → Chained (Link es) (j ∷ ks) → All (Known es p) ks → count t.called + openings es ks ≤ 1 → Onward js j ks t.called
+  onward : (ks : List ℕ) (t : Traveller L) (js : List ℕ) (j : ℕ) → Walk m es p q t js → t.stop ≡ reaches (numbered es j) → t.ready ≡ ready (numbered es j) → t.end ≡ end_of (numbered es j) → Chained (Link es) (j ∷ ks) → AllByRecursion (Known es p) ks → count t.called + openings es ks ≤ 1 → Onward js j ks t.called
   onward [] t js j w s r e c a o =
       record { traveller = t; walk = subst (Walk m es p q t) (sym (append-nil js)) w; stops = s; ends = e; calls = omega arith }
   onward (k ∷ ks) t js j w s r e c a o =

@@ -4,7 +4,7 @@ use lib.Signed.{lt_z}
 use Rattle.std.proofs.lemmas.Int.{ints}
 use Rattle.std.proofs.lemmas.Bool.{and_from, and_parts, cases_order, le-leb, leb-true, both_ways, cases_Bool, not-true, or_cases}
 use Rattle.std.proofs.lemmas.Bool.Decides.{Decides-and, Decides-eqb, Decides-ltb}
-use Rattle.std.specs.List.{AllByRecursion as All}
+use Rattle.std.specs.List.{AllByRecursion}
 use Rattle.records.specs.declared.event.Event.{Event}
 use Rattle.records.specs.Events.{time_of}
 use Rattle.measures.specs.Measures.{Ops, Score, ◌≼◌}
@@ -36,18 +36,18 @@ abbrev pub risings : ℕ → ℕ → List (List ℕ)
 risings a zero = [] ∷ []
 risings a (suc n) = risings (a + 1) n ++ map (λ js. a ∷ js) (risings (a + 1) n)
 
-all_from : (P Q : ℕ → Type 0) → ((j : ℕ) → P j → Q j) → (js : List ℕ) → All P js → All Q js
+all_from : (P Q : ℕ → Type 0) → ((j : ℕ) → P j → Q j) → (js : List ℕ) → AllByRecursion P js → AllByRecursion Q js
 all_from P Q h [] a = tt
 all_from P Q h (j ∷ js) a = (h j a.0, all_from P Q h js a.1)
 
 -- numbers of a rising list lie above its first
-rising_above : (a : ℕ) (js : List ℕ) → Before ◌<◌ a js → Chained ◌<◌ js → All (λ j. a + 1 ≤ j) js
+rising_above : (a : ℕ) (js : List ℕ) → Before ◌<◌ a js → Chained ◌<◌ js → AllByRecursion (λ j. a + 1 ≤ j) js
 rising_above a [] b c = tt
 rising_above a (j ∷ js) b c =
     (omega arith, all_from (λ k. j + 1 ≤ k) (λ k. a + 1 ≤ k) (λ k l. omega arith) js (rising_above j js c.0 c.1))
 
 -- complete: what is tested of all of them is tested of every rising list of these numbers
-pub risings_complete : (t : List ℕ → Bool) (a n : ℕ) → every t (risings a n) ≡ true → (js : List ℕ) → Chained ◌<◌ js → All (λ j. a ≤ j) js → All (λ j. j < a + n) js → t js ≡ true
+pub risings_complete : (t : List ℕ → Bool) (a n : ℕ) → every t (risings a n) ≡ true → (js : List ℕ) → Chained ◌<◌ js → AllByRecursion (λ j. a ≤ j) js → AllByRecursion (λ j. j < a + n) js → t js ≡ true
 risings_complete t a zero h [] c l u = (and_parts (t []) true h).0
 risings_complete t a zero h (j ∷ js) c l u = absurd (omega (arith, l.0, u.0))
 risings_complete t a (suc n) h [] c l u = risings_complete t (a + 1) n (every_append t (risings (a + 1) n) _ h).0 [] tt tt tt
@@ -83,7 +83,7 @@ decides_true = ((λ _. tt), (λ _. refl))
 decides_leb : (a b : ℕ) → Decides (leb a b) (a ≤ b)
 decides_leb a b = (leb-true a b, le-leb a b)
 
-decides_every : (t : ℕ → Bool) (P : ℕ → Type 0) → ((j : ℕ) → Decides (t j) (P j)) → (js : List ℕ) → Decides (every t js) (All P js)
+decides_every : (t : ℕ → Bool) (P : ℕ → Type 0) → ((j : ℕ) → Decides (t j) (P j)) → (js : List ℕ) → Decides (every t js) (AllByRecursion P js)
 decides_every t P d [] = decides_true
 decides_every t P d (j ∷ js) = Decides-and (t j) (every t js) (d j) (decides_every t P d js)
 
@@ -148,7 +148,7 @@ module _ (es : List Event) (p : ℕ → Bool) (q : Query) where
   decides_link : (j k : ℕ) → Decides (link_b j k) (Link es j k)
   decides_link j k = Decides-and _ _ (Decides-eqb _ _) (decides_leb _ _)
 
-  fits_parts : (js : List ℕ) → Fits es p q js → All (λ j. (j < length es) × (p j ≡ true)) js × (Chained ◌<◌ js × (Chained (Link es) js × ((1 ≤ rides es js) × ((openings es js ≡ wanted) × ((leaves (numbered es (first js)) ≡ q.from) × ((reaches (numbered es (final js)) ≡ q.to) × ((q.open ≤ beginning es js) × (ending es js ≤ q.close))))))))
+  fits_parts : (js : List ℕ) → Fits es p q js → AllByRecursion (λ j. (j < length es) × (p j ≡ true)) js × (Chained ◌<◌ js × (Chained (Link es) js × ((1 ≤ rides es js) × ((openings es js ≡ wanted) × ((leaves (numbered es (first js)) ≡ q.from) × ((reaches (numbered es (final js)) ≡ q.to) × ((q.open ≤ beginning es js) × (ending es js ≤ q.close))))))))
   fits_parts js f = let j = f.journey in (j.known, (j.rising, (j.linked, (j.ridden, (j.called, (j.departs, (j.arrives, (f.opens, f.closes))))))))
 
   -- sound and complete: the test is true exactly of what fits

@@ -1,6 +1,6 @@
 use Rattle.std.proofs.Common.{◌≡◌, ℕ, ◌<◌, length, get_or, sym, refl, ap, ◌∙◌, subst, arith}
 use Rattle.std.proofs.lemmas.Result.{err_from_is_err_and}
-use Rattle.std.specs.List.{AllByRecursion as All}
+use Rattle.std.specs.List.{AllByRecursion}
 use Rattle.faults.proofs.Rules.{broken_from_err, kept_from_ok, value_from_ok}
 use Rattle.records.specs.Events.{Within}
 use Rattle.sources.proofs.Tables.{tests_within}
@@ -40,7 +40,7 @@ invariant_of-result c =
     let e = c.table_of-lines.ensures in
     let es : events_on (lines_of bs) ≡ events_on c.table_of-lines.result = sym (ap events_on e ∙ events_on-table (lines_of bs)) in
     let n : rides_of (lines_of bs) ≡ length (events_on c.table_of-lines.result) = sym (length-events (lines_of bs)) ∙ ap length es in
-    let within : All Within (events_on c.table_of-lines.result) = subst (All Within) es (within_events (lines_of bs) (regular_lines bs k small)) in
+    let within : AllByRecursion Within (events_on c.table_of-lines.result) = subst (AllByRecursion Within) es (within_events (lines_of bs) (regular_lines bs k small)) in
     record {
       all = ap length e ∙ length-table (lines_of bs) (few_lines bs k);
       size = sym v ∙ n;
