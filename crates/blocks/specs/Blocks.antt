@@ -4,7 +4,7 @@
 --     event_at bs i    the event that its fields give
 --     rules_after bs i r the rules that r obeys as record i behind the records of bs: those of a record
 --                      by itself, then that it is the first or in order after record i - 1
---     logicAt bs i     those of record i of bs
+--     rules_at bs i    those of record i of bs
 --     records_rules bs  those of each record of bs in turn
 --     size_rules bs    there are whole records only, and at most 1,024
 --     block_rules bs   the rules that a block obeys, in the order in which they are tested: those of its

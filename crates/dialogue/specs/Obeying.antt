@@ -2,17 +2,17 @@
 -- events and place tell a source's list and place; b is what the post and the tables are before, a what they are after.
 --     Desk                 the post's source and marks; the work tables for labels that are numbers, and for labels that
 --                          are trips; the queue and the step table
---     by_number d, by_trip d   what a query with such labels is handed of it
+--     by_number d, by_trip d  what a query with such labels is handed of it
 --     formula k            the plain formula of a measure's letter: its score of a journey
 --     notice_reply r, query_reply r  the reply that an answer is told by
---     Notices k e b reply a   a notice about event e: its answer by the marks, which are all that may change
+--     Notices k e b reply a  a notice about event e: its answer by the marks, which are all that may change
 --     Tallies b reply a    a tally; nothing changes
---     Asks .. m k q x reply y   a query under the measure m, whose scores are the formula of k; x and y are what it is
+--     Asks .. m k q x reply y  a query under the measure m, whose scores are the formula of k; x and y are what it is
 --                          handed, before and after
---     AsksByNumber .., AsksByTrip ..       such a query, with the tables for the other labels as found
+--     AsksByNumber .., AsksByTrip ..  such a query, with the tables for the other labels as found
 --     Obeys b c reply a    what the command c does: the calls withdraw, reinstate, tally, and query under the
 --                          measure of the letter
---     Interprets b line reply a   a line that spells a command is obeyed; any other is refused with 11, and everything
+--     Interprets b line reply a  a line that spells a command is obeyed; any other is refused with 11, and everything
 --                          is as found; the reply's line has 8,192 bytes at most
 use Rattle.std.specs.Prelude.{◌≡◌, ℕ, ◌≤◌, Bool, List, length, pos, ◌-ℤ◌, Ok, Err, Result}
 use Rattle.faults.specs.declared.Fault.{Fault}

@@ -4,7 +4,7 @@
 --     numbered es j    the event with the number j
 --     leaves e         the stop that a ride leaves, or at which an opening is
 --     reaches e        the stop that a ride reaches, or at which an opening is
---     end_of e          a ride's arrival, an opening's minute
+--     end_of e         a ride's arrival, an opening's minute
 --     ready e          the moment from which the traveller can go on after e
 --     minutes e        a ride's duration; an opening takes no riding
 --     Chained R xs     R holds of any two neighbours in xs
@@ -19,7 +19,7 @@
 --     openings es js   how many openings it has
 --     waiting es js    ending less beginning less riding
 --     gaps es js       the minutes between the end of each event and the time of the next, summed
---     Journey es p q js   js is a journey that q asks for: rising numbers of events in force, each
+--     Journey es p q js  js is a journey that q asks for: rising numbers of events in force, each
 --                      linked to the next, with at least one ride, with exactly one opening if a call is
 --                      wanted and none otherwise, from the stop that q leaves to the stop that it reaches
 --     Fits es p q js   such a journey, that begins and ends within the window

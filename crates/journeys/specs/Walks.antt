@@ -2,9 +2,9 @@
 -- A temporal graph has stops as its vertices and rides as its edges: an edge leads from its tail to its
 -- head, and is passed from its start on, in its duration.
 --     TemporalEdge         an edge
---     edge_of e             the edge that a ride is
+--     edge_of e            the edge that a ride is
 --     TemporalWalk ds      each edge begins where the one before it ends, and not before it is passed
---     WalkInWindow es p q js     js are numbers of rides in force that are, as edges, a temporal walk
+--     WalkInWindow es p q js  js are numbers of rides in force that are, as edges, a temporal walk
 --                          from q's first stop to its second within its window: the first edge starts at its
 --                          opening or later, the last is passed at its close or earlier
 --     WalksAreJourneys     in every timetable's list, the journeys without a call that fit are exactly

@@ -125,8 +125,7 @@ fn mark(day: &mut Day, number: u32) -> anyhow::Result<()> {
 
 // Judges the list that a line's numbers ask for.
 fn judge_line(rt: &HostRuntime, day: &Day, numbers: &[u32]) -> anyhow::Result<()> {
-    let steps = steps(rt.alloc(), numbers)?;
-    print_judgment(rt, day, query(numbers)?, &steps)
+    print_judgment(rt, day, query(numbers)?, &steps(rt.alloc(), numbers)?)
 }
 
 fn answer(rt: &HostRuntime, day: &mut Day, line: &str) -> anyhow::Result<()> {

@@ -1,7 +1,7 @@
 -- The departures of lines, and the timetable that they make. Assumes nothing.
 --     before x y          x departs earlier, or in the same minute and its line stands earlier
 --     departing m i       the departure of line i in minute m
---     run_from m v i n     n departures of line i, from minute m on, v minutes apart
+--     run_from m v i n    n departures of line i, from minute m on, v minutes apart
 --     run i l             those of a line at position i
 --     gather g i xs       what g gives of each x at its position, positions from i on, one after another
 --     runs ls             the departures of all lines, line after line
@@ -9,7 +9,7 @@
 --     ride_on ls d        the ride of a departure
 --     Timetable ls es     es are the rides of all lines, rearranged by departure and then by line position
 --     OnlyOne             lines have only one such list
---     insert x ds, sorted ds   x put before the first departure that it does not follow; all of ds so put in order
+--     insert x ds, sorted ds  x put before the first departure that it does not follow; all of ds so put in order
 --     departures ls       the departures of all lines in order
 --     events_on ls        their rides, which are a timetable
 use Rattle.std.specs.Prelude.{◌≡◌, ℕ, zero, suc, ◌+◌, Bool, cond, ◌&&◌, ◌||◌, List, [], ◌∷◌, ◌++◌, map, ◌==◌, nat_lt, slice_index_or}

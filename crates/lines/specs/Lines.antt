@@ -6,16 +6,16 @@
 --                      there is an interval and a ride, and the last arrival is at most 999,999
 --     line_rules p bs  the rules that a line record obeys by itself, at place p: its kind is a line's, its spare
 --                      bytes are 0, its line is within the limits
---     line_at bs i      the line that record i of a block gives
+--     line_at bs i     the line that record i of a block gives
 --     lines_to bs n    the first n lines of a block
 --     rides_of ls      how many rides lines have together
 --     few_rides p n    the rule that n rides are at most 1,024, at place p
---     logicAt bs i     the rules of record i: those of a line record by itself, then that the lines up to this one
+--     rules_at bs i    the rules of record i: those of a line record by itself, then that the lines up to this one
 --                      have at most 1,024 rides
 --     each_rules bs    those of each record in turn
 --     size_rules bs    there are whole records only, and at most 32
 --     block_rules bs   the rules that a block of lines obeys, in the order in which they are tested
---     lines_of bs       the lines of a block, in their order
+--     lines_of bs      the lines of a block, in their order
 --     no_line          what stands in the part of a table that holds no line
 --     table ls         a table of 32 lines that begins with ls
 use Rattle.std.specs.Prelude.{ℕ, ◌+◌, ◌-◌, ◌*◌, ◌%◌, Bool, not, ◌&&◌, List, [], ◌∷◌, ◌++◌, map, length, replicate, sum_by, ◌==◌, nat_le}

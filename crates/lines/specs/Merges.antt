@@ -1,7 +1,7 @@
 -- Cursors on lines, and the queue of their next departures. Assumes nothing.
 --     cursor_of l             the cursor at a line's first departure
---     next_of i c              the next departure of the line at position i, none where no ride is left
---     left_of i c              the departures that are left of it
+--     next_of i c             the next departure of the line at position i, none where no ride is left
+--     left_of i c             the departures that are left of it
 --     onward c                the cursor one departure further
 --     beyond c                the minute that a cursor has behind its last departure
 --     no_cursor, no_departure  what stands in a table before it is filled

@@ -1,4 +1,7 @@
--- What labels carry along, and that a measure over them keeps its laws.
+-- What labels carry along, and that a measure over them keeps its laws. Assumes nothing.
+--     carrying_laws        carrying m keeps the laws that m keeps
+--     Carries m es l js r  r is what the label l has become after the events js: m's label, and what it carries along
+--     label_carries        so it is with the label of every list of events whose sums stay small
 use Rattle.std.specs.Prelude.{◌≡◌, ℕ, ◌+◌, ◌^◌, ◌<◌, List, [], ◌∷◌, refl}
 use Rattle.std.proofs.Common.{ap, ◌∙◌, arith}
 use Rattle.records.specs.declared.event.Event.{Event}

@@ -1,7 +1,7 @@
 -- What a search finds. Assumes nothing.
 -- es, p, q and m are as for journeys and scores: events, what is in force, the query, the measure.
---     reads_of es c         how many events are read: up to and including the first that is later than c, else all
---     answer_of m es js n   what is told of the journey js after n reads
+--     reads_of es c        how many events are read: up to and including the first that is later than c, else all
+--     answer_of m es js n  what is told of the journey js after n reads
 --     named a steps        the journey that the answer a names: as many numbers as it tells, from the front of
 --                          the step table
 --     Named ..             the answer a names a journey: the journey fits; no journey that fits scores lower; what

@@ -1,4 +1,6 @@
--- An order by a number first: it keeps the laws of a strict weak order.
+-- The laws of the order of awaited arrivals: it is a strict weak one. Assumes nothing.
+--     by_first_asymmetric, by_first_cotransitive  an order by a number first keeps the laws that the order behind it has
+--     sooner_asymmetric, sooner_cotransitive      so the order of arrivals keeps them
 use Rattle.std.specs.Prelude.{◌≡◌, ℕ, ◌<◌, Bool, true, false, not, ◌&&◌, ◌⊎◌}
 use Rattle.std.proofs.Common.{inl, inr, ⊎_elim, sym, ◌∙◌, arith}
 use Rattle.std.proofs.lemmas.Bool.{both_ways, cases_order, eq-eqb, le-ltb, lt-ltb, ne_eqb}

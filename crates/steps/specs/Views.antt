@@ -1,5 +1,5 @@
 -- The log's table as a log of best labels. Assumes nothing.
---     origin_of o           an entry's origin
+--     origin_of o          an entry's origin
 --     noted e              an entry's label with its origin
 --     view log             the table by event and call state
 --     Agrees es log        each entry has the stop that its event reaches, and the event's end

@@ -8,7 +8,7 @@
 --                          that it left
 --     checks es i          the rules that a query obeys before it is searched for, in the order of testing: those of
 --                          the query, then those of the tables
---     QueryRight es p i r steps    the answer r to i is right where p says which events are in force:
+--     QueryRight es p i r steps  the answer r to i is right where p says which events are in force:
 --                          names, named     it names a journey exactly where the checks are passed and some journey
 --                                           fits; the one named fits, has the score given, and none that fits
 --                                           scores lower
@@ -17,7 +17,7 @@
 --     notice_rules n out k e  the rules that a notice about event e obeys where there are n events: e is one of
 --                          them; a withdrawal finds it in force, and a reinstatement out of force
 --     noted k r e marks    the marks after a notice: that of e is set or taken away if it was accepted
---     Does es marks c marks'   what a call with its answer does: it is answered by the marks, and leaves marks'
+--     Does es marks c marks'  what a call with its answer does: it is answered by the marks, and leaves marks'
 use Rattle.std.specs.Prelude.{◌≡◌, ℕ, Bool, true, false, not, List, [], ◌∷◌, ◌++◌, length, Some, Ok, Err, count_by, Result, nat_lt, slice_index_or, slice_set}
 use Rattle.faults.specs.declared.Fault.{Fault}
 use Rattle.faults.specs.declared.Fault.TheVariants.{NoJourney, NoticeWithoutEffect, UnknownEvent}

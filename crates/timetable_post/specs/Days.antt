@@ -9,7 +9,7 @@
 --     Day es h             every call of the history got what it was owed
 --     Marked h marks       the marks are those of the events that are out of force by h
 --     Explains es h marks  the history got what it was owed, and the marks, of which there are 1,024, are by it
---     CarriesOn es marks c marks'    whatever history explains marks, that history and then c explain marks'
+--     CarriesOn es marks c marks'  whatever history explains marks, that history and then c explain marks'
 --     Run es h marks       from a post that was just put up, the calls of h, each doing what it does to the marks
 --                          that the one before left, come to marks
 --     DepotsDay            over every source's list of events, after every such run, the empty one included: every

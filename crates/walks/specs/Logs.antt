@@ -2,7 +2,7 @@
 -- es, p, q and m are as for walks. A log has, for an event and a call state, a label and its origin, or nothing.
 --     Origin               where a label came from: a fresh start, or an earlier event in a call state
 --     Log L                the log
---     Candidate m es p q g i c l o   the label l, from the origin o, can be had at event i with call
+--     Candidate m es p q g i c l o  the label l, from the origin o, can be had at event i with call
 --                          state c: by a fresh start, or from an entry of the log g at an earlier event
 --                          from which the traveller is ready for i
 --     BestEntry ..         an entry that is a candidate, and no worse than every candidate
@@ -20,7 +20,7 @@
 --                          fit, by a journey that tracing spells; and no entry ends rightly exactly where no
 --                          journey fits
 --     first_late es c      the number of the first event that is later than c, or of events where none is
---     StoppingLosesNothing     every event from there on is later than q's close, and no journey that fits
+--     StoppingLosesNothing  every event from there on is later than q's close, and no journey that fits
 --                          goes on to one of them
 --     SixGiveBest          so it is with each of the six measures
 use Rattle.std.specs.Prelude.{◌≡◌, ℕ, suc, ◌<◌, ◌≤◌, Bool, true, false, cond, List, [], ◌∷◌, ◌++◌, length, Some, None, Option, ◌≢◌, nat_le}

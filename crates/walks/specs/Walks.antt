@@ -12,7 +12,7 @@
 --     Walk m es p q t js   the events js, one after another, make a walk after which the traveller is t
 --     Rightly q t          t ends as q asks: at its second stop, within its window, with the call made if
 --                          one is wanted and not made otherwise
---     FitsBy m es p q t js    js fits, and t has its label and its end
+--     FitsBy m es p q t js  js fits, and t has its label and its end
 --     WalksFit m           the journeys that fit are exactly the walks that end rightly
 --     Exchange m           of two walks that can go on with one event, in the same call state, the one
 --                          with the no-worse label can take the other's place, and stays no worse
