@@ -10,7 +10,7 @@ use measures::Measure;
 use records::Event;
 
 // What is said of a journey that fits.
-#[derive(Clone, Copy)]
+#[derive(Clone, Copy, PartialEq, Eq, Debug)]
 pub struct Verdict {
     pub begin: u32,
     pub end: u32,
@@ -20,7 +20,7 @@ pub struct Verdict {
 }
 
 // Sums over a list of event numbers.
-#[derive(Clone, Copy)]
+#[derive(Clone, Copy, Default)]
 struct Totals {
     riding: u128,
     rides: usize,
@@ -31,24 +31,22 @@ struct Totals {
 fn event_numbered(events: &[Event], number: usize) -> Event
     ensures { result ≡ numbered events.now number }
 {
-    if number < events.len() {
-        events[number]
-    } else {
-        Event::Opening { stop: 0, minute: 0 }
-    }
+    let unusable = Event::Opening { stop: 0, minute: 0 };
+    events.get(number).copied().unwrap_or(unusable)
+}
+
+// Whether the marks leave an event in force; beyond them every event is.
+pub fn is_in_force(marks: &[bool], number: usize) -> bool
+    ensures { result ≡ in_force marks.now number }
+{
+    !marks.get(number).copied().unwrap_or(false)
 }
 
 // Whether a number is that of an event in force.
 fn is_known(events: &[Event], marks: &[bool], number: usize) -> bool
     ensures { result ≡ (nat_lt number (length events.now) && in_force marks.now number) }
 {
-    if number >= events.len() {
-        return false;
-    }
-    if number >= marks.len() {
-        return true;
-    }
-    !marks[number]
+    number < events.len() && is_in_force(marks, number)
 }
 
 // Whether a traveller can go on from the first event to the second.
@@ -69,29 +67,27 @@ fn goes_on(events: &[Event], first: usize, second: usize) -> bool
     first < second && is_link(events, first, second)
 }
 
-// Whether the number at a place is that of an event in force, and the next number may stand right after it.
-fn step_holds(events: &[Event], marks: &[bool], steps: &[usize], place: usize) -> bool
-    requires { place < length steps.now }
-    ensures { Decides result (Next events.now (in_force marks.now) (drop place steps.now)) }
+// Whether the first of the numbers is that of an event in force, and the second may stand right after it.
+fn step_holds(events: &[Event], marks: &[bool], steps: &[usize]) -> bool
+    ensures { Decides result (Next events.now (in_force marks.now) steps.now) }
 {
-    let step = steps[place];
-    if !is_known(events, marks, step) {
-        return false;
+    match steps {
+        [] => true,
+        [step] => is_known(events, marks, *step),
+        [step, next, ..] => is_known(events, marks, *step) && goes_on(events, *step, *next),
     }
-    if place + 1 >= steps.len() {
-        return true;
-    }
-    goes_on(events, step, steps[place + 1])
 }
 
 // Whether the numbers rise and are those of events in force, each linked to the next.
 fn is_chain(events: &[Event], marks: &[bool], steps: &[usize]) -> bool
     ensures { Decides result (Chain events.now (in_force marks.now) steps.now) }
 {
-    for place in 0..steps.len() {
-        if !step_holds(events, marks, steps, place) {
+    let mut left = steps;
+    while let [_, after @ ..] = left {
+        if !step_holds(events, marks, left) {
             return false;
         }
+        left = after;
     }
     true
 }
@@ -127,11 +123,7 @@ fn with_event(totals: Totals, event: Event) -> Totals
 fn add_up(events: &[Event], steps: &[usize]) -> Totals
     ensures { result ≡ totals_of events.now steps.now }
 {
-    let mut totals = Totals {
-        riding: 0,
-        rides: 0,
-        openings: 0,
-    };
+    let mut totals = Totals::default();
     for step in steps {
         totals = with_event(totals, event_numbered(events, *step));
     }
@@ -153,9 +145,8 @@ fn label_along<M: Measure>(events: &[Event], begin: M::Label, steps: &[usize]) -
 fn meets(query: Query, first: Event, last: Event, totals: Totals) -> bool
     ensures { Decides result (Asked query first last totals) }
 {
-    let called = if query.call { 1 } else { 0 };
     totals.rides >= 1
-        && totals.openings == called
+        && totals.openings == usize::from(query.call)
         && leaves_at(first) == query.from
         && reaches_at(last) == query.to
         && query.open <= first.time()
