@@ -1,2 +1,4 @@
 pub mod Fills
+pub mod Lists
+pub mod Records
 pub mod Scans

@@ -1,96 +1,55 @@
--- The records of a block, one after another.
-use Rattle.std.proofs.Common.{◌≡◌, ℕ, zero, suc, ◌+◌, ◌-◌, ◌*◌, ◌%◌, ◌<◌, ◌≤◌, true, false, cond, ◌||◌, eqb, ltb, leb, List, ◌∷◌, length, get_or, drop, Some, None, sym, ap, ◌∙◌, subst, ⊎_elim, arith}
-use Rattle.std.proofs.lemmas.List.FromFn.{length-map-range_with_len, get_or-map-range_with_len}
-use Rattle.std.proofs.lemmas.Option.{slice_get-get_or, slice_get_past}
-use Rattle.std.specs.List.{range_with_len, flat_map, slice_get}
-use Rattle.faults.specs.Rules.{Rule, Kept, first_broken}
+-- Rules that are tested on one record after another.
+use Rattle.std.proofs.Common.{◌≡◌, ℕ, zero, suc, ◌+◌, ◌<◌, List, [], ◌∷◌, ◌++◌, length, drop, Some, Option, Result, sym, ap, ap₂, ◌∙◌, subst, arith}
+use Rattle.std.proofs.lemmas.List.{drop_all, drop_more}
+use Rattle.std.proofs.lemmas.Result.{err_from_is_err_and}
+use Rattle.std.specs.Result.{IsErrAnd}
+use Rattle.std.specs.List.{flat_map, range_with_len}
 use Rattle.faults.specs.declared.Fault.{Fault}
-use Rattle.std.proofs.ByRecursion.{All-from_get_or}
-use Rattle.std.proofs.lemmas.List.{get_or-take, get_or-drop}
-use Rattle.std.proofs.lemmas.Bool.{cases_lt, le-ltb, leb-true, lt-ltb, ne_eqb}
-use Rattle.faults.proofs.Rules.{first_broken_kept, first_broken_broken, kept_append, kept_parts}
-use Rattle.records.proofs.Limits.{limits_anywhere, stops_event_in}
-use Rattle.records.specs.declared.event.Event.{Event}
-use Rattle.records.specs.Events.{Listed, Within, in_order}
-use Rattle.records.specs.Layout.{is_opening, is_ride, record_rules, spare, zeros}
-use Rattle.blocks.specs.Blocks.{block_rules, count, event_at, events_of, record_at, rules_at}
+use Rattle.faults.specs.Rules.{Rule, Kept, first_broken, judged_by}
+use Rattle.faults.proofs.Rules.{first_broken_broken, first_broken_kept, judged_broken, kept_append}
+use Rattle.blocks.specs.Rows.{record_at}
 
-pub counting_next : (i n : ℕ) → i < n → range_with_len i (n - i) ≡ i ∷ range_with_len (i + 1) (n - (i + 1))
-counting_next i n h = let e : n - i ≡ suc (n - (i + 1)) = omega arith in rw e
+-- the rules of the records rs in turn, of which the first is record p: record i is r obeys `rules s i r`, where s is what is
+-- kept of the records before it, and `next s r` what is kept with it
+abbrev pub rules_in_turn : {S : Type 0} → (S → ℕ → List ℕ → List Rule) → (S → List ℕ → S) → S → ℕ → List (List ℕ) → List Rule
+rules_in_turn rules next s p [] = []
+rules_in_turn rules next s p (r ∷ rs) = rules s p r ++ rules_in_turn rules next (next s r) (p + 1) rs
 
-module _ (bs : List ℕ) where
-  pub length-events_of : length (events_of bs) ≡ count bs
-  length-events_of = length-map-range_with_len (event_at bs) 0 (count bs)
+-- where the records before record i are tested, and s is kept of them
+module _ {S : Type 0} (rules : S → ℕ → List ℕ → List Rule) (next : S → List ℕ → S) (rs : List (List ℕ)) (s : S) (i : ℕ) (h : i < length rs) where
+  abbrev r : List ℕ
+  r = record_at rs i
 
-  pub slice_get-events_of : (i : ℕ) → cond (ltb i (count bs)) (Some (event_at bs i)) None ≡ slice_get (events_of bs) i
-  slice_get-events_of i =
-      ⊎_elim
-      (λ h.
-      rw (lt-ltb i (count bs) h)
-      (sym
-      (slice_get-get_or (events_of bs) i (event_at bs 0) (rw length-events_of h)
-      ∙ ap Some (get_or-map-range_with_len (event_at bs) 0 (count bs) i i (event_at bs 0) h (omega arith)))))
-      (λ h. rw (le-ltb i (count bs) h) (sym (slice_get_past (events_of bs) i (rw length-events_of h))))
-      (cases_lt i (count bs))
+  turn : rules_in_turn rules next s i (drop i rs) ≡ rules s i r ++ rules_in_turn rules next (next s r) (i + 1) (drop (i + 1) rs)
+  turn = ap (rules_in_turn rules next s i) (drop_more rs i [] h)
 
-  -- what the records from i on are still to be tested for
-  abbrev pub rules_from : ℕ → List Rule
-  rules_from i = flat_map (rules_at bs) (range_with_len i (count bs - i))
+  pub turn_kept : Kept (rules s i r) → first_broken (rules_in_turn rules next (next s r) (i + 1) (drop (i + 1) rs)) ≡ first_broken (rules_in_turn rules next s i (drop i rs))
+  turn_kept k = sym (ap first_broken turn ∙ first_broken_kept (rules s i r) _ k)
 
-  pub scan_more : (i : ℕ) → i < count bs → Kept (rules_at bs i) → first_broken (rules_from (i + 1)) ≡ first_broken (rules_from i)
-  scan_more i h k = rw (counting_next i (count bs) h) (sym (first_broken_kept (rules_at bs i) (rules_from (i + 1)) k))
+  pub turn_broken : (f : Fault) → first_broken (rules s i r) ≡ Some f → first_broken (rules_in_turn rules next s i (drop i rs)) ≡ Some f
+  turn_broken f b = ap first_broken turn ∙ first_broken_broken (rules s i r) _ f b
 
-  pub scan_broken : (i : ℕ) (f : Fault) → i < count bs → first_broken (rules_at bs i) ≡ Some f → first_broken (rules_from i) ≡ Some f
-  scan_broken i f h k = rw (counting_next i (count bs) h) (first_broken_broken (rules_at bs i) (rules_from (i + 1)) f k)
+-- the rules in turn are the rules by place: record i obeys `at i`, and what is kept of the records before it is `given i`
+module _ {S : Type 0} (rules : S → ℕ → List ℕ → List Rule) (next : S → List ℕ → S) (rs : List (List ℕ)) (given : ℕ → S) (at : ℕ → List Rule)
+    (same : (i : ℕ) → i < length rs → (given (i + 1) ≡ next (given i) (record_at rs i)) × (at i ≡ rules (given i) i (record_at rs i))) where
+  from_place : (n i : ℕ) → i + n ≡ length rs → rules_in_turn rules next (given i) i (drop i rs) ≡ flat_map at (range_with_len i n)
+  from_place zero i e = ap (rules_in_turn rules next (given i) i) (drop_all i rs (omega arith))
+  from_place (suc n) i e =
+      let h : i < length rs = omega arith in
+      turn rules next rs (given i) i h
+      ∙ ap₂ ◌++◌ (sym (same i h).1) (ap (λ s. rules_in_turn rules next s (i + 1) (drop (i + 1) rs)) (sym (same i h).0) ∙ from_place n (i + 1) (omega arith))
 
--- the rules of a block that is opened hold of each record
-module _ (f : ℕ → List Rule) where
-  pub kept_counting : (a n i j : ℕ) → a + i ≡ j → Kept (flat_map f (range_with_len a n)) → i < n → Kept (f j)
-  kept_counting a zero i j e h l = absurd (omega arith)
-  kept_counting a (suc n) zero j e h l =
-      let e' : a ≡ j = omega arith in subst (λ k. Kept (f k)) e' (kept_append (f a) (flat_map f (range_with_len (a + 1) n)) h).0
-  kept_counting a (suc n) (suc i) j e h l =
-      kept_counting (a + 1) n i j (omega arith) (kept_append (f a) (flat_map f (range_with_len (a + 1) n)) h).1 (omega arith)
+  pub in_turn_by_place : rules_in_turn rules next (given 0) 0 rs ≡ flat_map at (range_with_len 0 (length rs))
+  in_turn_by_place = from_place (length rs) 0 (omega arith)
 
-module _ (bs : List ℕ) (small : (i : ℕ) → get_or bs i 0 < 256) (k : Kept (block_rules bs)) where
-  few : count bs ≤ 1024
-  few = leb-true (count bs) 1024 (kept_parts (leb (count bs) 1024) _ _ (kept_parts (eqb (length bs % 16) 0) _ _ k).1).0
+-- the rules of one place
+pub kept_at : (at : ℕ → List Rule) (a n i j : ℕ) → a + i ≡ j → i < n → Kept (flat_map at (range_with_len a n)) → Kept (at j)
+kept_at at a zero i j e h k = absurd (omega arith)
+kept_at at a (suc n) zero j e h k =
+    let e' : a ≡ j = omega arith in subst (λ p. Kept (at p)) e' (kept_append (at a) (flat_map at (range_with_len (a + 1) n)) k).0
+kept_at at a (suc n) (suc i) j e h k =
+    kept_at at (a + 1) n i j (omega arith) (omega arith) (kept_append (at a) (flat_map at (range_with_len (a + 1) n)) k).1
 
-  each_kept : (i : ℕ) → i < count bs → Kept (rules_at bs i)
-  each_kept i h =
-      let t = kept_parts (eqb (length bs % 16) 0) _ _ k in
-      let u = kept_parts (leb (count bs) 1024) _ _ t.1 in
-      kept_counting (rules_at bs) 0 (count bs) i i (omega arith) u.1 h
-
-  each_within : (i : ℕ) → i < count bs → Within (event_at bs i)
-  each_within i h =
-      let r = (kept_append (record_rules i (record_at bs i)) _ (each_kept i h)).0 in
-      let t = kept_parts (is_opening (record_at bs i) || is_ride (record_at bs i)) _ _ r in
-      let u = kept_parts (zeros (spare (record_at bs i))) _ _ t.1 in
-      let at : (j : ℕ) → j < 16 → get_or (record_at bs i) j 0 ≡ get_or bs (16 * i + j) 0 = λ j l. get_or-take 16 (drop (16 * i) bs) j 0 l ∙ get_or-drop (16 * i) bs j 0 in
-      (limits_anywhere i 0 (event_at bs i) u.1, stops_event_in (record_at bs i) (rw (at 1 (omega arith)) (small (16 * i + 1))) (rw (at 2 (omega arith)) (small (16 * i + 2))))
-
-  each_follows : (i : ℕ) → i + 1 < count bs → in_order (event_at bs i) (event_at bs (i + 1)) ≡ true
-  each_follows i h =
-      let r = (kept_append (record_rules (i + 1) (record_at bs (i + 1))) _ (each_kept (i + 1) h)).1 in
-      let t = (kept_parts (eqb (i + 1) 0 || in_order (event_at bs (i + 1 - 1)) (event_at bs (i + 1))) _ _ r).0 in
-      let e : i + 1 - 1 ≡ i = omega arith in
-      let n : eqb (i + 1) 0 ≡ false = ne_eqb (i + 1) 0 (omega arith) in
-      subst (λ j. in_order (event_at bs j) (event_at bs (i + 1)) ≡ true) e
-      (subst (λ b. (b || in_order (event_at bs (i + 1 - 1)) (event_at bs (i + 1))) ≡ true) n t)
-
-  get_or-events_of : (i : ℕ) (d : Event) → i < length (events_of bs) → get_or (events_of bs) i d ≡ event_at bs i
-  get_or-events_of i d h = get_or-map-range_with_len (event_at bs) 0 (count bs) i i d (rw (length-events_of bs) at h) (omega arith)
-
-  pub listed_events_of : Listed (events_of bs)
-  listed_events_of =
-      record {
-        few = rw (length-events_of bs) few;
-        within =
-            All-from_get_or Within (events_of bs) (event_at bs 0)
-            (λ i h. rw (get_or-events_of i (event_at bs 0) h) (each_within i (rw (length-events_of bs) at h)));
-        ordered =
-            λ i d h.
-            let h' : i < length (events_of bs) = omega arith in
-            rw (get_or-events_of i d h', get_or-events_of (i + 1) d h) (each_follows i (rw (length-events_of bs) at h));
-      }
+-- what a `?` returns where a rule is broken
+pub exit_broken : {T : Type 0} (r : Result T Fault) (f : Fault) (o : Option Fault) (x : T) → IsErrAnd r (λ e. e ≡ f) → o ≡ Some f → r ≡ judged_by o x
+exit_broken r f o x h b = let p = err_from_is_err_and r h in rw (p.1, p.2) (sym (judged_broken o x f b))

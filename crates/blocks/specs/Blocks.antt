@@ -1,51 +1,46 @@
 -- A block of bytes as a list of events. Assumes nothing.
---     count bs         how many whole records the bytes have
---     record_at bs i   the sixteen bytes of record i
---     event_at bs i    the event that its fields give
---     rules_after bs i r the rules that r obeys as record i behind the records of bs: those of a record
---                      by itself, then that it is the first or in order after record i - 1
---     rules_at bs i    those of record i of bs
---     records_rules bs  those of each record of bs in turn
---     size_rules bs    there are whole records only, and at most 1,024
+--     follows o e      e may stand behind the event o: there is none, or they are in order
+--     rules_after o i r  the rules that r obeys as record i behind the event o: those of a record by
+--                      itself, then that it follows o
+--     last_event rs    the event of the last of the records rs, none where there is none
+--     rules_at rs i    those of record i of rs, behind the event of the record before it, none for the first
+--     records_rules rs  those of each record of rs in turn
 --     block_rules bs   the rules that a block obeys, in the order in which they are tested: those of its
---                      size, then those of its records
+--                      size, with at most 1,024 records, then those of its records
 --     events_of bs     the events of a block, in their order
 --     opening bs       what opening a block answers: its events, or the first broken rule's fault
-use Rattle.std.specs.Prelude.{ℕ, ◌-◌, ◌*◌, ◌/◌, ◌%◌, ◌||◌, List, [], ◌∷◌, ◌++◌, map, length, take, drop, Result, ◌==◌, nat_le}
-use Rattle.std.specs.List.{range_with_len, flat_map}
+use Rattle.std.specs.Prelude.{ℕ, ◌-◌, Bool, true, List, [], ◌∷◌, ◌++◌, map, length, take, Some, None, Option, Result}
+use Rattle.std.specs.Option.{option_map}
+use Rattle.std.specs.List.{flat_map, range_with_len, slice_get}
 use Rattle.faults.specs.declared.Fault.{Fault}
-use Rattle.faults.specs.declared.Fault.TheVariants.{PartialRecord, TooManyRecords, OutOfOrder}
+use Rattle.faults.specs.declared.Fault.TheVariants.{OutOfOrder}
 use Rattle.faults.specs.Rules.{Rule, judged}
 use Rattle.records.specs.declared.event.Event.{Event}
 use Rattle.records.specs.Events.{in_order}
 use Rattle.records.specs.Layout.{event_in, record_rules}
+use Rattle.blocks.specs.Rows.{record_at, records_of, size_rules}
 
-abbrev pub count : List ℕ → ℕ
-count bs = length bs / 16
+abbrev pub follows : Option Event → Event → Bool
+follows None e = true
+follows (Some d) e = in_order d e
 
-abbrev pub record_at : List ℕ → ℕ → List ℕ
-record_at bs i = take 16 (drop (16 * i) bs)
+abbrev pub rules_after : Option Event → ℕ → List ℕ → List Rule
+rules_after o i r = record_rules i r ++ (follows o (event_in r), OutOfOrder i) ∷ []
 
-abbrev pub event_at : List ℕ → ℕ → Event
-event_at bs i = event_in (record_at bs i)
+abbrev pub last_event : List (List ℕ) → Option Event
+last_event rs = option_map event_in (slice_get rs (length rs - 1))
 
-abbrev pub rules_after : List ℕ → ℕ → List ℕ → List Rule
-rules_after bs i r = record_rules i r ++ (i == 0 || in_order (event_at bs (i - 1)) (event_in r), OutOfOrder i) ∷ []
+abbrev pub rules_at : List (List ℕ) → ℕ → List Rule
+rules_at rs i = rules_after (last_event (take i rs)) i (record_at rs i)
 
-abbrev pub rules_at : List ℕ → ℕ → List Rule
-rules_at bs i = rules_after bs i (record_at bs i)
-
-abbrev pub records_rules : List ℕ → List Rule
-records_rules bs = flat_map (rules_at bs) (range_with_len 0 (count bs))
-
-abbrev pub size_rules : List ℕ → List Rule
-size_rules bs = ((length bs % 16 == 0), PartialRecord (count bs)) ∷ (nat_le (count bs) 1024, TooManyRecords 1024) ∷ []
+abbrev pub records_rules : List (List ℕ) → List Rule
+records_rules rs = flat_map (rules_at rs) (range_with_len 0 (length rs))
 
 abbrev pub block_rules : List ℕ → List Rule
-block_rules bs = size_rules bs ++ records_rules bs
+block_rules bs = size_rules 1024 bs ++ records_rules (records_of bs)
 
 abbrev pub events_of : List ℕ → List Event
-events_of bs = map (event_at bs) (range_with_len 0 (count bs))
+events_of bs = map event_in (records_of bs)
 
 abbrev pub opening : List ℕ → Result (List Event) Fault
 opening bs = judged (block_rules bs) (events_of bs)

@@ -1,3 +1,4 @@
 pub mod Blocks
 pub mod Loads
+pub mod Rows
 pub mod Views

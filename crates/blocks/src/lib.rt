@@ -3,6 +3,8 @@
 
 mod block;
 mod load;
+mod row;
 
 pub use block::Block;
 pub use load::Load;
+pub use row::{RECORD_BYTES, rows};

@@ -1,30 +1,39 @@
 // A load: memory that is filled with records, one after another.
 ghost use Rattle.std.specs.Prelude.{◌≡◌, ℕ, ◌+◌, ◌*◌, List, ◌++◌, is_ok, if◌then◌else◌};
 ghost use Rattle.faults.specs.Rules.{judged};
+ghost use Rattle.records.specs.Layout.{event_in};
+ghost use Rattle.blocks.specs.Blocks.{last_event};
 ghost use Rattle.blocks.specs.Loads.{Filled, Filling, accepted, add_rules, placed};
 
-use crate::block::{MOST_RECORDS, RECORD_BYTES, check_after, record_at};
+use crate::block::read_after;
+use crate::row::RECORD_BYTES;
 use faults::Fault;
+use records::{Event, MOST_EVENTS, fields};
 
-// Handed memory, whose front holds `held` records.
+// Handed memory, whose front holds `held` records; the count stands beside it, since the memory is the caller's.
 #[derive(Drop)]
 pub struct Load<'a> {
     memory: &'a mut [u8],
     held: usize,
 }
 
-// Refuses a record that may not be added to memory that holds `held` records, with the first rule broken.
-fn check_next(memory: &[u8], held: usize, bytes: &[u8]) -> Result<(), Fault>
-    ensures { result ≡ judged (add_rules memory.now held bytes.now) tt }
+// The event of the last of the records, none where there is none.
+fn last_event(rows: &[[u8; 16]]) -> Option<Event>
+    ensures { result ≡ last_event rows.now }
 {
-    let place = held;
-    if bytes.len() != RECORD_BYTES {
-        return Err(Fault::PartialRecord { place });
+    rows.last().map(|row| fields(row))
+}
+
+// The event of a record, refused with the first rule broken where it may not be added to memory that holds `held` records.
+fn check_next(memory: &[u8], held: usize, bytes: &[u8]) -> Result<Event, Fault>
+    ensures { result ≡ judged (add_rules memory.now held bytes.now) (event_in bytes.now) }
+{
+    let row = <&[u8; 16]>::try_from(bytes).map_err(|_| Fault::PartialRecord { place: held })?;
+    let (rows, _) = memory.as_chunks::<RECORD_BYTES>();
+    if held >= MOST_EVENTS || held >= rows.len() {
+        return Err(Fault::TooManyRecords { place: held });
     }
-    if held >= MOST_RECORDS || memory.len() < held * RECORD_BYTES + RECORD_BYTES {
-        return Err(Fault::TooManyRecords { place });
-    }
-    check_after(memory, place, &record_at(bytes, 0))
+    read_after(last_event(&rows[..held]), held, row)
 }
 
 // Writes a record behind the `held` records in memory, or refuses it and writes nothing.

@@ -2,7 +2,7 @@
 #![tactic(auto)]
 
 use blocks::{Block, Load};
-use faults::{Fault, Report};
+use faults::Report;
 use records::{Event, read, write};
 
 // A ride 1-2 100+20, an opening at 2, minute 125, and a ride 2-3 125+30.
@@ -12,49 +12,19 @@ const GOOD: [u8; 48] = [
     2, 2, 3, 0, 0, 0, 0, 125, 0, 30, 0, 0, 0, 0, 0, 0, //
 ];
 
-fn told(fault: Fault) -> (u8, u8, usize) {
-    let Report {
-        number,
-        layer,
-        place,
-    } = fault.report();
-    (number, layer, place)
+// How many events the bytes have as a block, or what opening them meets; beside the like for lines, by calls of other names.
+fn opened(bytes: &[u8]) -> Result<usize, Report> {
+    Ok(Block::open(bytes)?.len())
 }
 
-// What opening the bytes meets; number 0 where they open, with the number of events as place.
-fn opened(bytes: &[u8]) -> (u8, u8, usize) {
-    match Block::open(bytes) {
-        Ok(block) => (0, 0, block.len()),
-        Err(fault) => told(fault),
-    }
+// What adding the bytes to a load meets.
+fn added(load: &mut Load, bytes: &[u8]) -> Result<(), Report> {
+    Ok(load.add(bytes)?)
 }
 
-// What adding the bytes to a load meets; number 0 where they are accepted.
-fn added(load: &mut Load, bytes: &[u8]) -> (u8, u8, usize) {
-    match load.add(bytes) {
-        Ok(()) => (0, 0, 0),
-        Err(fault) => told(fault),
-    }
-}
-
-fn ride(from: u8, to: u8, departure: u32, duration: u16) -> Event {
-    Event::Ride {
-        from,
-        to,
-        departure,
-        duration,
-    }
-}
-
-// What writing an event meets; number 0 where reading its record at place 5 gives the event back, 255 where not.
-fn rewritten(event: Event) -> (u8, u8, usize) {
-    match write(event) {
-        Ok(record) => match read(&record, 5) {
-            Ok(again) => (if again == event { 0 } else { 255 }, 0, 0),
-            Err(fault) => told(fault),
-        },
-        Err(fault) => told(fault),
-    }
+// What reading the record of an event gives, or what writing or reading it meets.
+fn rewritten(event: Event) -> Result<Event, Report> {
+    Ok(read(&write(event)?, 5)?)
 }
 
 #[cfg(test)]
@@ -64,36 +34,36 @@ mod tests {
     #[test]
     fn damaged_blocks(rt: HostRuntime) {
         // Two bytes changed in the good block, and the number, layer and place that opening it then meets.
-        let table: [((usize, u8), (usize, u8), (u8, u8, usize)); 27] = [
-            ((0, 2), (0, 2), (0, 0, 3)),
-            ((16, 0), (0, 2), (3, 2, 1)),
-            ((16, 3), (0, 2), (3, 2, 1)),
-            ((3, 1), (0, 2), (4, 2, 0)),
-            ((10, 1), (0, 2), (4, 2, 0)),
-            ((15, 1), (0, 2), (4, 2, 0)),
-            ((18, 1), (0, 2), (4, 2, 1)),
-            ((19, 1), (0, 2), (4, 2, 1)),
-            ((24, 1), (0, 2), (4, 2, 1)),
-            ((31, 1), (0, 2), (4, 2, 1)),
-            ((2, 1), (0, 2), (5, 2, 0)),
-            ((9, 0), (0, 2), (6, 2, 0)),
-            ((8, 5), (9, 160), (0, 0, 3)),
-            ((8, 5), (9, 161), (6, 2, 0)),
-            ((4, 255), (0, 2), (8, 2, 0)),
-            ((20, 1), (0, 2), (8, 2, 1)),
-            ((7, 126), (0, 2), (9, 3, 1)),
+        let table: [((usize, u8), (usize, u8), Result<usize, Report>); 27] = [
+            ((0, 2), (0, 2), Ok(3)),
+            ((16, 0), (0, 2), Err(Report::new(3, 2, 1))),
+            ((16, 3), (0, 2), Err(Report::new(3, 2, 1))),
+            ((3, 1), (0, 2), Err(Report::new(4, 2, 0))),
+            ((10, 1), (0, 2), Err(Report::new(4, 2, 0))),
+            ((15, 1), (0, 2), Err(Report::new(4, 2, 0))),
+            ((18, 1), (0, 2), Err(Report::new(4, 2, 1))),
+            ((19, 1), (0, 2), Err(Report::new(4, 2, 1))),
+            ((24, 1), (0, 2), Err(Report::new(4, 2, 1))),
+            ((31, 1), (0, 2), Err(Report::new(4, 2, 1))),
+            ((2, 1), (0, 2), Err(Report::new(5, 2, 0))),
+            ((9, 0), (0, 2), Err(Report::new(6, 2, 0))),
+            ((8, 5), (9, 160), Ok(3)),
+            ((8, 5), (9, 161), Err(Report::new(6, 2, 0))),
+            ((4, 255), (0, 2), Err(Report::new(8, 2, 0))),
+            ((20, 1), (0, 2), Err(Report::new(8, 2, 1))),
+            ((7, 126), (0, 2), Err(Report::new(9, 3, 1))),
             // A ride before an opening of the same minute; the same minute from opening to ride is in order.
-            ((7, 125), (0, 2), (9, 3, 1)),
-            ((39, 124), (0, 2), (9, 3, 2)),
+            ((7, 125), (0, 2), Err(Report::new(9, 3, 1))),
+            ((39, 124), (0, 2), Err(Report::new(9, 3, 2))),
             // The first broken rule decides: kind, spare byte, stops, duration, time, order.
-            ((0, 9), (3, 1), (3, 2, 0)),
-            ((3, 1), (2, 1), (4, 2, 0)),
-            ((2, 1), (9, 0), (5, 2, 0)),
-            ((9, 0), (4, 255), (6, 2, 0)),
-            ((4, 255), (16, 0), (8, 2, 0)),
-            ((7, 126), (32, 0), (9, 3, 1)),
-            ((20, 1), (32, 0), (8, 2, 1)),
-            ((39, 124), (32, 7), (3, 2, 2)),
+            ((0, 9), (3, 1), Err(Report::new(3, 2, 0))),
+            ((3, 1), (2, 1), Err(Report::new(4, 2, 0))),
+            ((2, 1), (9, 0), Err(Report::new(5, 2, 0))),
+            ((9, 0), (4, 255), Err(Report::new(6, 2, 0))),
+            ((4, 255), (16, 0), Err(Report::new(8, 2, 0))),
+            ((7, 126), (32, 0), Err(Report::new(9, 3, 1))),
+            ((20, 1), (32, 0), Err(Report::new(8, 2, 1))),
+            ((39, 124), (32, 7), Err(Report::new(3, 2, 2))),
         ];
         for ((at, byte), (also_at, also_byte), meets) in table {
             let mut bytes = GOOD;
@@ -107,12 +77,12 @@ mod tests {
     #[test]
     fn lengths(rt: HostRuntime) {
         let bytes = [0u8; 16_401];
-        assert_eq!(rt; opened(&bytes[0..0]), (0, 0, 0));
-        assert_eq!(rt; opened(&bytes[0..15]), (1, 1, 0));
-        assert_eq!(rt; opened(&bytes[0..17]), (1, 1, 1));
-        assert_eq!(rt; opened(&bytes[0..16_384]), (3, 2, 0));
-        assert_eq!(rt; opened(&bytes[0..16_400]), (2, 1, 1_024));
-        assert_eq!(rt; opened(&bytes), (1, 1, 1_025));
+        assert_eq!(rt; opened(&bytes[0..0]), Ok(0));
+        assert_eq!(rt; opened(&bytes[0..15]), Err(Report::new(1, 1, 0)));
+        assert_eq!(rt; opened(&bytes[0..17]), Err(Report::new(1, 1, 1)));
+        assert_eq!(rt; opened(&bytes[0..16_384]), Err(Report::new(3, 2, 0)));
+        assert_eq!(rt; opened(&bytes[0..16_400]), Err(Report::new(2, 1, 1_024)));
+        assert_eq!(rt; opened(&bytes), Err(Report::new(1, 1, 1_025)));
     }
 
     #[test]
@@ -120,11 +90,14 @@ mod tests {
         let mut memory = [0u8; 16_400];
         let mut load = Load::new(&mut memory);
         for _ in 0..1_024 {
-            assert_eq!(rt; added(&mut load, &GOOD[0..16]), (0, 0, 0));
+            assert_eq!(rt; added(&mut load, &GOOD[0..16]), Ok(()));
         }
-        assert_eq!(rt; added(&mut load, &GOOD[0..16]), (2, 1, 1_024));
+        assert_eq!(rt;
+            added(&mut load, &GOOD[0..16]),
+            Err(Report::new(2, 1, 1_024))
+        );
         assert_eq!(rt; load.finish(), 1_024);
-        assert_eq!(rt; opened(&memory[0..16_384]), (0, 0, 1_024));
+        assert_eq!(rt; opened(&memory[0..16_384]), Ok(1_024));
     }
 
     #[test]
@@ -132,47 +105,50 @@ mod tests {
         let mut memory = [170u8; 40];
         let line = [3, 1, 2, 0, 0, 0, 0, 100, 0, 20, 0, 5, 0, 9, 0, 0];
         let mut load = Load::new(&mut memory);
-        assert_eq!(rt; added(&mut load, &GOOD[0..15]), (1, 1, 0));
-        assert_eq!(rt; added(&mut load, &line), (3, 2, 0));
-        assert_eq!(rt; added(&mut load, &GOOD[16..32]), (0, 0, 0));
-        assert_eq!(rt; added(&mut load, &GOOD[0..16]), (9, 3, 1));
-        assert_eq!(rt; added(&mut load, &GOOD[32..48]), (0, 0, 0));
-        assert_eq!(rt; added(&mut load, &GOOD[16..32]), (2, 1, 2));
-        assert_eq!(rt; added(&mut load, &GOOD[0..17]), (1, 1, 2));
+        assert_eq!(rt; added(&mut load, &GOOD[0..15]), Err(Report::new(1, 1, 0)));
+        assert_eq!(rt; added(&mut load, &line), Err(Report::new(3, 2, 0)));
+        assert_eq!(rt; added(&mut load, &GOOD[16..32]), Ok(()));
+        assert_eq!(rt; added(&mut load, &GOOD[0..16]), Err(Report::new(9, 3, 1)));
+        assert_eq!(rt; added(&mut load, &GOOD[32..48]), Ok(()));
+        assert_eq!(rt; added(&mut load, &GOOD[16..32]), Err(Report::new(2, 1, 2)));
+        assert_eq!(rt; added(&mut load, &GOOD[0..17]), Err(Report::new(1, 1, 2)));
         assert_eq!(rt; load.finish(), 2);
         assert_eq!(rt; &memory[0..32], &GOOD[16..48]);
         assert_eq!(rt; &memory[32..40], [170u8; 8].as_slice());
-        assert_eq!(rt; opened(&memory[0..32]), (0, 0, 2));
+        assert_eq!(rt; opened(&memory[0..32]), Ok(2));
     }
 
     #[test]
     fn written_events(rt: HostRuntime) {
         let table = [
-            (ride(1, 2, 999_998, 1), (0, 0, 0)),
-            (ride(1, 2, 999_999, 1), (8, 2, 0)),
-            (ride(1, 2, 4_294_967_295, 1_440), (8, 2, 0)),
-            (ride(255, 0, 0, 1_440), (0, 0, 0)),
-            (ride(0, 1, 0, 1_441), (6, 2, 0)),
-            (ride(0, 1, 0, 0), (6, 2, 0)),
-            (ride(7, 7, 0, 0), (5, 2, 0)),
-            (ride(0, 1, 999_999, 0), (6, 2, 0)),
+            (Event::ride(1, 2, 999_998, 1), Ok(())),
+            (Event::ride(1, 2, 999_999, 1), Err(Report::new(8, 2, 0))),
+            (
+                Event::ride(1, 2, 4_294_967_295, 1_440),
+                Err(Report::new(8, 2, 0)),
+            ),
+            (Event::ride(255, 0, 0, 1_440), Ok(())),
+            (Event::ride(0, 1, 0, 1_441), Err(Report::new(6, 2, 0))),
+            (Event::ride(0, 1, 0, 0), Err(Report::new(6, 2, 0))),
+            (Event::ride(7, 7, 0, 0), Err(Report::new(5, 2, 0))),
+            (Event::ride(0, 1, 999_999, 0), Err(Report::new(6, 2, 0))),
             (
                 Event::Opening {
                     stop: 255,
                     minute: 999_999,
                 },
-                (0, 0, 0),
+                Ok(()),
             ),
             (
                 Event::Opening {
                     stop: 0,
                     minute: 1_000_000,
                 },
-                (8, 2, 0),
+                Err(Report::new(8, 2, 0)),
             ),
         ];
         for (event, meets) in table {
-            assert_eq!(rt; rewritten(event), meets);
+            assert_eq!(rt; rewritten(event), meets.map(|()| event));
         }
     }
 }

@@ -2,7 +2,6 @@
 #![tactic(auto)]
 
 use commands::{Command, LONGEST_TEXT, parse, write};
-use faults::Fault;
 use std::alloc::Global;
 use std::io;
 use std::io::{BufRead, BufReader, Read, Write};
@@ -15,17 +14,11 @@ fn print_command(out: &mut impl Write, command: Command) -> io::Result<()> {
     out.write_all(b"\n")
 }
 
-fn print_fault(out: &mut impl Write, fault: Fault) -> io::Result<()> {
-    let report = fault.report();
-    let (number, layer, place) = (report.number, report.layer, report.place);
-    writeln!(out, "no {number} {layer} {place}")
-}
-
 fn answer_lines(heap: Global, input: impl Read + Drop, out: &mut impl Write) -> io::Result<()> {
     for line in BufReader::new(heap, input)?.split(heap, b'\n') {
         match parse(&line?) {
             Ok(command) => print_command(out, command)?,
-            Err(fault) => print_fault(out, fault)?,
+            Err(fault) => writeln!(out, "{fault}")?,
         }
     }
     Ok(())

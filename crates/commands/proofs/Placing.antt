@@ -1,30 +1,21 @@
--- Bytes placed one behind another, and how many there are.
-use Rattle.std.proofs.Common.{◌≡◌, ℕ, ◌+◌, ◌-◌, ◌/◌, ◌%◌, ◌^◌, ◌<◌, ◌≤◌, Bool, true, false, List, ◌++◌, length, take, drop, decimal, sym, ap, ◌∙◌, arith}
-use Rattle.std.proofs.lemmas.Fmt.{decimal_step, length-decimal-le}
-use Rattle.std.proofs.lemmas.List.{append_assoc, drop_at, length-append, length_push, take_at}
+-- How long the texts of commands are, and what copying one out writes.
+use Rattle.std.proofs.Common.{◌≡◌, ℕ, ◌≤◌, Bool, true, false, List, length, take, drop, decimal, Some, None, Option, sym, ap, ◌∙◌, arith}
+use Rattle.std.proofs.lemmas.Fmt.{length-decimal-le}
+use Rattle.std.proofs.lemmas.List.{drop_at, length-append, take_at}
 use Rattle.journeys.specs.declared.query.Query.{Query}
 use Rattle.commands.specs.declared.command.Criterion.{Criterion}
 use Rattle.commands.specs.declared.command.Command.{Command}
 use Rattle.commands.specs.declared.command.Command.TheVariants.{Withdraw, Reinstate, Tally, Find}
+use Rattle.texts.specs.Pushing.{CopiedOut}
 use Rattle.commands.specs.Grammar.{ShortTexts, Valid, calling, question, text}
-use Rattle.commands.specs.Writing.{Placed, Written}
+use Rattle.commands.specs.Writing.{Wrote}
 use Rattle.commands.proofs.Texts.{reads_from_answered}
-
-pub placed_behind : {m m₁ m₂ bs ds : List ℕ} {i j n : ℕ} → Placed m i bs m₁ j → Placed m₁ j ds m₂ n → Placed m i (bs ++ ds) m₂ n
-placed_behind {m} {m₁} {m₂} {bs} {ds} {i} {j} {n} p q =
-    record {
-      ends = omega (arith, p.ends, q.ends, length-append bs ds);
-      front = q.front ∙ ap (λ l. l ++ ds) p.front ∙ append_assoc (take i m) bs ds;
-    }
 
 pub length_stop : (n : ℕ) → n ≤ 255 → length (decimal n) ≤ 3
 length_stop n h = length-decimal-le 3 n (omega arith) (omega arith) (omega arith)
 
 pub length_number : (n : ℕ) → n ≤ 999999 → length (decimal n) ≤ 6
 length_number n h = length-decimal-le 6 n (omega arith) (omega arith) (omega arith)
-
-pub length_step : (n : ℕ) → 10 ≤ n → n < 2 ^ 64 → length (decimal n) ≡ length (decimal (n / 10)) + 1
-length_step n h k = ap length (decimal_step n h k) ∙ length_push (decimal (n / 10)) (48 + n % 10)
 
 pub length-question : (k : Criterion) (q : Query) → Valid (Find k q) → length (question k q) ≤ 23
 length-question k q v =
@@ -40,16 +31,16 @@ short_texts (Find k q) v = omega (arith, length-question k q v, length-append (q
     length-calling true = omega arith
     length-calling false = omega arith
 
--- a command's text over the front of other bytes
-pub written : (c : Command) (m bs : List ℕ) (n : ℕ) → Valid c → n ≤ length m → n ≡ length (text c) → bs ≡ text c → Written c m (bs ++ drop (n - 0) m) n
-written c m bs n v room e i =
-    let l : length bs ≡ n = ap length i ∙ sym e in
-    let f = take_at bs (drop (n - 0) m) n l ∙ i in
+-- a command's text that was copied over the front of other bytes
+pub wrote : (c : Command) (t m m' : List ℕ) (a : Option ℕ) → Valid c → t ≡ text c → CopiedOut t m a m' → Wrote c m m' a
+wrote c t m m' None v e h = (h.0, λ _. omega (arith, h.1, ap length e))
+wrote c t m m' (Some n) v e h =
+    let f = ap (take n) h.2 ∙ take_at t (drop n m) n (sym h.0) ∙ e in
     record {
       valid = v;
-      ends = e;
-      room = room;
+      ends = h.0 ∙ ap length e;
+      room = h.1;
       front = f;
-      rest = drop_at bs (drop (n - 0) m) n l ∙ ap (λ k. drop k m) (omega arith);
-      reads = λ a h. reads_from_answered (take n (bs ++ drop (n - 0) m)) a h c (v, f);
+      rest = ap (drop n) h.2 ∙ drop_at t (drop n m) n (sym h.0);
+      reads = λ a r. reads_from_answered (take n m') a r c (v, f);
     }

@@ -2,7 +2,7 @@
 use Rattle.std.proofs.Common.{◌≡◌, ℕ, ◌+◌, ◌-◌, ◌*◌, ◌<◌, ◌≤◌, Bool, true, false, ◌&&◌, ◌||◌, eqb, leb, List, [], ◌∷◌, ◌++◌, length, Some, None, decimal, Option, sym, refl, ap, ◌∙◌, subst, ⊎_elim, arith}
 use Rattle.std.proofs.lemmas.Fmt.{decimal_digit}
 use Rattle.std.proofs.lemmas.List.{append_assoc}
-use Rattle.std.proofs.lemmas.Bool.{and_from, eq-eqb, le-leb, or_left, or_right}
+use Rattle.std.proofs.lemmas.Bool.{and_from, both_ways, eq-eqb, le-leb, or_left, or_right}
 use Rattle.std.specs.Int.{IsInRange}
 use Rattle.journeys.specs.declared.query.Query.{Query}
 use Rattle.commands.specs.declared.command.Criterion.{Criterion}
@@ -58,6 +58,10 @@ goes_on_at (Called k q) b h c rest v e =
 
 pub goes_on_lem : (s : State) (b : ℕ) → Bounded s → Begins (partial s ++ (b ∷ [])) → goes_on s b ≡ true
 goes_on_lem s b h p = let (c, rest, v, e) = begun (partial s) b p in goes_on_at s b h c rest v e
+
+-- a byte with which no command goes on
+pub stuck : (s : State) (b : ℕ) → Bounded s → goes_on s b ≡ false → Begins (partial s ++ (b ∷ [])) → ⊥
+stuck s b h n p = both_ways _ n (goes_on_lem s b h p)
 
 pub first_digit : (f : Field) (b : ℕ) → Held f → IsInRange 48 57 b → Moved (Before f) b (Some (Within f (b - 48)))
 first_digit f b h d =

@@ -1,17 +1,12 @@
--- Bytes written over others. Assumes nothing.
---     Placed m i bs m' n   m has become m', whose first n bytes are the first i of m and then bs
+-- A command's text written over other bytes. Assumes nothing.
 --     Written c m m' n     m has become m', whose first n bytes are the text of c, with the rest as in m;
 --                          they read as c and nothing else
 --     Wrote c m m' a       the answer a tells that c is written over m, or that it is not valid or does not
 --                          fit, with m as it was
-use Rattle.std.specs.Prelude.{◌≡◌, ℕ, ◌+◌, ◌<◌, ◌≤◌, List, ◌++◌, length, take, drop, Some, None, Ok, Option, Result}
+use Rattle.std.specs.Prelude.{◌≡◌, ℕ, ◌<◌, ◌≤◌, List, length, take, drop, Some, None, Ok, Option, Result}
 use Rattle.faults.specs.declared.Fault.{Fault}
 use Rattle.commands.specs.declared.command.Command.{Command}
 use Rattle.commands.specs.Grammar.{Answered, Valid, text}
-
-pub record Placed (m : List ℕ) (i : ℕ) (bs m' : List ℕ) (n : ℕ) : Type 0 where
-  pub ends : n ≡ i + length bs
-  pub front : take n m' ≡ take i m ++ bs
 
 pub record Written (c : Command) (m m' : List ℕ) (n : ℕ) : Type 0 where
   pub valid : Valid c

@@ -40,7 +40,8 @@ enum Field {
     },
 }
 
-// What was read so far, as far as it matters to what may follow.
+// What was read so far, as far as it matters to what may follow. That its numbers are within bounds stands in `requires`: an
+// enum carries no fact, and a struct round it would leave the functions that match on its cases as they are.
 #[derive(Clone, Copy)]
 enum State {
     Start,

@@ -1,14 +1,20 @@
 // A command written out.
-ghost use Rattle.std.specs.Prelude.{◌≡◌, ◌+◌, ◌≤◌, [], ◌∷◌, length, decimal, MatchBool};
-ghost use Rattle.commands.specs.Grammar.{Valid, letter, question, spaced, text};
-ghost use Rattle.commands.specs.Writing.{Placed, Wrote};
+ghost use Rattle.std.specs.Prelude.{◌≡◌, [], ◌∷◌, MatchBool};
+ghost use Rattle.texts.specs.Pushing.{Pushed};
+ghost use Rattle.commands.specs.Grammar.{Valid, letter, question, text};
+ghost use Rattle.commands.specs.Writing.{Wrote};
 
 use crate::command::{Command, Criterion};
 use crate::reader::MOST_NUMBER;
+use arrayvec::{ArrayString, CapacityError};
 use journeys::Query;
+use texts::{copy_out, push, push_spaced};
 
 // The length of the longest text, that of `e 255 255 999999 999999 v`.
 pub const LONGEST_TEXT: usize = 25;
+
+// A line in which a text is put together.
+type Line = ArrayString<LONGEST_TEXT>;
 
 // Whether each number has at most six digits.
 fn is_valid(command: Command) -> bool
@@ -22,87 +28,54 @@ fn is_valid(command: Command) -> bool
     }
 }
 
-fn letter_of(criterion: Criterion) -> u8
-    ensures { result ≡ letter criterion }
+// The letter of a measure. No `Display`: no clause says that a write to a formatter
+// succeeds. A `From` to text would have the same six lines in an impl.
+fn letter_of(criterion: Criterion) -> &'static str
+    ensures { result.now ≡ letter criterion ∷ [] }
 {
     match criterion {
-        Criterion::EarliestArrival => b'e',
-        Criterion::LatestDeparture => b'l',
-        Criterion::Fastest => b'f',
-        Criterion::LeastRiding => b's',
-        Criterion::FewestRides => b'n',
-        Criterion::LeastWaiting => b'c',
+        Criterion::EarliestArrival => "e",
+        Criterion::LatestDeparture => "l",
+        Criterion::Fastest => "f",
+        Criterion::LeastRiding => "s",
+        Criterion::FewestRides => "n",
+        Criterion::LeastWaiting => "c",
     }
 }
 
-// Writes a byte behind the first `at` of a line, and tells where it ends.
-fn place_byte(line: &mut [u8], at: usize, byte: u8) -> usize
-    requires { at + 1 ≤ length line.old }
-    ensures { Placed line.old at (byte ∷ []) line.new result }
+// Puts a query's letter, stops and minutes behind the text of a line.
+fn push_question(line: &mut Line, criterion: Criterion, query: Query) -> Result<(), CapacityError>
+    ensures { Pushed 25 line.old.bytes (question criterion query) result line.new.bytes }
 {
-    line[at] = byte;
-    at + 1
+    push(line, letter_of(criterion))?;
+    push_spaced(line, query.from)?;
+    push_spaced(line, query.to)?;
+    push_spaced(line, query.open)?;
+    push_spaced(line, query.close)
 }
 
-// Writes a number in decimal behind the first `at` bytes of a line, and tells where it ends.
-fn place_number(line: &mut [u8], at: usize, number: u32) -> usize
-    requires { at + length (decimal number) ≤ length line.old }
-    ensures { Placed line.old at (decimal number) line.new result }
-{
-    if number < 10 {
-        return place_byte(line, at, b'0' + number as u8);
-    }
-    let end = place_number(line, at, number / 10);
-    place_byte(line, end, b'0' + (number % 10) as u8)
-}
-
-// Writes a space and a number behind the first `at` bytes of a line, and tells where it ends.
-fn place_spaced(line: &mut [u8], at: usize, number: u32) -> usize
-    requires { at + length (spaced number) ≤ length line.old }
-    ensures { Placed line.old at (spaced number) line.new result }
-{
-    let end = place_byte(line, at, b' ');
-    place_number(line, end, number)
-}
-
-// Writes a query's letter, stops and minutes to the front of a line, and tells where they end.
-fn place_question(line: &mut [u8], criterion: Criterion, query: Query) -> usize
-    requires { (Valid (Command.Find criterion query)) × (25 ≤ length line.old) }
-    ensures { Placed line.old 0 (question criterion query) line.new result }
-{
-    let mut end = place_byte(line, 0, letter_of(criterion));
-    end = place_spaced(line, end, u32::from(query.from));
-    end = place_spaced(line, end, u32::from(query.to));
-    end = place_spaced(line, end, query.open);
-    place_spaced(line, end, query.close)
-}
-
-// Writes the text of a valid command to the front of a line, and tells where it ends.
-fn place_text(line: &mut [u8], command: Command) -> usize
-    requires { (Valid command) × (25 ≤ length line.old) }
-    ensures { Placed line.old 0 (text command) line.new result }
+// Puts the text of a command behind that of a line.
+fn push_text(line: &mut Line, command: Command) -> Result<(), CapacityError>
+    ensures { Pushed 25 line.old.bytes (text command) result line.new.bytes }
 {
     match command {
         Command::Withdraw { event } => {
-            let end = place_byte(line, 0, b'w');
-            place_spaced(line, end, event)
+            push(line, "w")?;
+            push_spaced(line, event)
         }
         Command::Reinstate { event } => {
-            let end = place_byte(line, 0, b'r');
-            place_spaced(line, end, event)
+            push(line, "r")?;
+            push_spaced(line, event)
         }
-        Command::Tally => place_byte(line, 0, b't'),
+        Command::Tally => push(line, "t"),
         Command::Find { criterion, query } => {
-            let end = place_question(line, criterion, query);
-            if !query.call {
-                return end;
-            }
-            let end = place_byte(line, end, b' ');
-            place_byte(line, end, b'v')
+            push_question(line, criterion, query)?;
+            if query.call { push(line, " v") } else { Ok(()) }
         }
     }
 }
 
+// As the writing of a reply, but for what is put in the line and tested first; the bytes go to memory that is handed over.
 // Writes a command's text to the front of `out` and tells its length; none, with nothing written, where a
 // number has more than six digits or there is no room.
 pub fn write(command: Command, out: &mut [u8]) -> Option<usize>
@@ -111,11 +84,9 @@ pub fn write(command: Command, out: &mut [u8]) -> Option<usize>
     if !is_valid(command) {
         return None;
     }
-    let mut line = [0; LONGEST_TEXT];
-    let length = place_text(&mut line, command);
-    if length > out.len() {
-        return None;
+    let mut line = Line::new();
+    match push_text(&mut line, command) {
+        Ok(()) => copy_out(&line, out),
+        Err(_) => None,
     }
-    out[0..length].copy_from_slice(&line[0..length]);
-    Some(length)
 }

@@ -5,19 +5,14 @@ use commands::{Command, Criterion, LONGEST_TEXT, parse, write};
 use faults::Report;
 use journeys::Query;
 
-// What reading a line meets: the fault's number, layer and place, or zeros where the line spells a command.
-fn met(line: &[u8]) -> (u8, u8, usize) {
-    match parse(line) {
-        Ok(_) => (0, 0, 0),
-        Err(fault) => {
-            let Report {
-                number,
-                layer,
-                place,
-            } = fault.report();
-            (number, layer, place)
-        }
-    }
+// What a line that stops being a command at a place is refused with.
+fn refused_at(place: usize) -> Result<Command, Report> {
+    Err(Report::new(11, 4, place))
+}
+
+// The command that a line spells, or the report of its fault.
+fn met(line: &[u8]) -> Result<Command, Report> {
+    parse(line).map_err(Report::from)
 }
 
 // Whether a line spells the command, and the command is written as that line.
@@ -29,6 +24,7 @@ fn spells(line: &[u8], command: Command) -> bool {
     }
 }
 
+// A query, written out in a row.
 fn find(criterion: Criterion, from: u8, to: u8, open: u32, close: u32, call: bool) -> Command {
     Command::Find {
         criterion,
@@ -81,7 +77,7 @@ mod tests {
             (b"c 0 00 1 2", 5),
         ];
         for (line, place) in table {
-            assert_eq!(rt; met(line), (11, 4, place));
+            assert_eq!(rt; met(line), refused_at(place));
         }
     }
 
@@ -141,13 +137,13 @@ mod tests {
     #[test]
     fn long_lines(rt: HostRuntime) {
         let mut line = [b'1'; 10_000];
-        assert_eq!(rt; met(&line), (11, 4, 0));
+        assert_eq!(rt; met(&line), refused_at(0));
         line[0] = b'w';
         line[1] = b' ';
-        assert_eq!(rt; met(&line), (11, 4, 8));
-        assert_eq!(rt; met(&line[0..8]), (0, 0, 0));
+        assert_eq!(rt; met(&line), refused_at(8));
+        assert_eq!(rt; met(&line[0..8]), Ok(Command::Withdraw { event: 111_111 }));
         line[1] = b'\0';
-        assert_eq!(rt; met(&line), (11, 4, 1));
+        assert_eq!(rt; met(&line), refused_at(1));
     }
 
     #[test]

@@ -1,6 +1,7 @@
 -- The line of a reply is never longer than 8,192 bytes.
 use Rattle.std.proofs.Common.{◌≡◌, ℕ, ◌+◌, ◌*◌, ◌^◌, ◌<◌, ◌≤◌, Bool, true, false, cond, not, ◌&&◌, eqb, ltb, leb, List, [], ◌∷◌, ◌++◌, length, get_or, Some, None, Ok, Err, codes, decimal, Result, sym, ap, subst, inl, inr, add-mul, arith}
 use Rattle.std.proofs.lemmas.Fmt.{length-decimal-le}
+use Rattle.std.proofs.lemmas.Option.{same_Some}
 use Rattle.std.proofs.ByRecursion.{All-weaker}
 use Rattle.std.proofs.lemmas.List.{length-append}
 use Rattle.std.proofs.lemmas.List.Sums.{count_by-le-length}
@@ -19,15 +20,15 @@ use Rattle.journeys.specs.Verdicts.{in_force}
 use Rattle.journeys.proofs.Spans.{journey_span}
 use Rattle.search.specs.declared.answer.Answer.{Answer}
 use Rattle.search.specs.Searches.{Named, named}
-use Rattle.steps.proofs.Somes.{some_same}
 use Rattle.commands.specs.declared.command.Command.{Command}
 use Rattle.commands.specs.declared.command.Command.TheVariants.{Find, Reinstate, Tally, Withdraw}
 use Rattle.commands.specs.declared.command.Criterion.{Criterion}
 use Rattle.commands.specs.declared.command.Criterion.TheVariants.{EarliestArrival, Fastest, FewestRides, LatestDeparture, LeastRiding, LeastWaiting}
 use Rattle.commands.specs.Grammar.{Valid}
 use Rattle.replies.specs.declared.reply.Reply.{Reply}
-use Rattle.replies.specs.declared.reply.Reply.TheVariants.{Count, Journey, Refused}
+use Rattle.replies.specs.declared.reply.Reply.TheVariants.{Count, Journey}
 use Rattle.replies.specs.Printed.{newline, numbers, printed}
+use Rattle.replies.proofs.Fits.{told_numbers}
 use Rattle.timetable_post.specs.Calls.{Notice, finds, notice_rules, reinstatement, withdrawal}
 use Rattle.timetable_post.specs.Queries.{Answered, Handed}
 use Rattle.dialogue.specs.Obeying.{Asks, Desk, Notices, Obeys, by_number, by_trip, notice_reply, query_reply}
@@ -54,20 +55,20 @@ rising_few n (j ∷ js) c a = omega (arith, rising_from n j js c a)
 abbrev Small : Fault → Type 0
 Small f = ((reported f).number < 100) × ((reported f).layer < 100) × ((reported f).place < 2 ^ 64)
 
-refused_short : (f : Fault) (steps : List ℕ) → Small f → length (printed (Refused f) steps) ≤ 8192
+refused_short : (f : Fault) (steps : List ℕ) → Small f → length (printed (Err f) steps) ≤ 8192
 refused_short f steps s =
     let r = reported f in
     let all : AllByRecursion (λ n. (n < 10 ^ 20) × (n < 2 ^ 64)) (r.number ∷ r.layer ∷ r.place ∷ []) =
     ((omega (arith, s.0), omega (arith, s.0)), ((omega (arith, s.1), omega (arith, s.1)), ((omega (arith, s.2), s.2), tt))) in
-    omega (
+    subst (λ x. length (x ++ newline) ≤ 8192) (told_numbers r) (omega (
       arith,
       length-numbers 20 (omega arith) (r.number ∷ r.layer ∷ r.place ∷ []) all,
       length-append (numbers (r.number ∷ r.layer ∷ r.place ∷ [])) newline,
-    )
+    ))
 
-pub unknown_line_short : (place : ℕ) (steps : List ℕ) (f : Fault) → place < 2 ^ 64 → f ≡ NotACommand place → length (printed (Refused f) steps) ≤ 8192
+pub unknown_line_short : (place : ℕ) (steps : List ℕ) (f : Fault) → place < 2 ^ 64 → f ≡ NotACommand place → length (printed (Err f) steps) ≤ 8192
 unknown_line_short place steps f h e =
-    subst (λ g. length (printed (Refused g) steps) ≤ 8192) (sym e) (refused_short (NotACommand place) steps (omega arith, omega arith, h))
+    subst (λ g. length (printed (Err g) steps) ≤ 8192) (sym e) (refused_short (NotACommand place) steps (omega arith, omega arith, h))
 
 -- notices
 notice_by : (a b : Bool) (e : ℕ) (steps : List ℕ) (r : Result (Unit {0}) Fault) → e < 2 ^ 64 → r ≡ judged_by (cond a (cond b None (Some (NoticeWithoutEffect e))) (Some (UnknownEvent e))) tt → length (printed (notice_reply r) steps) ≤ 8192
@@ -80,25 +81,27 @@ notice_by false b e steps r h j =
 pub notice_short : (n : ℕ) (out : Bool) (k : Notice) (e : ℕ) (steps : List ℕ) (r : Result (Unit {0}) Fault) → e < 2 ^ 64 → r ≡ judged (notice_rules n out k e) tt → length (printed (notice_reply r) steps) ≤ 8192
 notice_short n out k e steps r h j = notice_by (ltb e n) (finds k out) e steps r h j
 
-pub count_short : (n : ℕ) (steps : List ℕ) → n < 2 ^ 64 → length (printed (Count n) steps) ≤ 8192
+pub count_short : (n : ℕ) (steps : List ℕ) → n < 2 ^ 64 → length (printed (Ok (Count n)) steps) ≤ 8192
 count_short n steps h =
     omega (arith, length-decimal-le 20 n (omega arith) (omega arith) h, length-append (decimal n) newline)
 
 -- queries
 rule_small : (a b c d : Bool) (f : Fault) → cond a (cond b (cond c (cond d None (Some StepTableTooShort)) (Some WorkTableTooShort)) (Some BadWindow)) (Some EqualQueryStops) ≡ Some f → Small f
-rule_small false b c d f h = subst Small (some_same h) (omega arith, omega arith, omega arith)
-rule_small true false c d f h = subst Small (some_same h) (omega arith, omega arith, omega arith)
-rule_small true true false d f h = subst Small (some_same h) (omega arith, omega arith, omega arith)
-rule_small true true true false f h = subst Small (some_same h) (omega arith, omega arith, omega arith)
+rule_small false b c d f h = subst Small (same_Some _ _ h) (omega arith, omega arith, omega arith)
+rule_small true false c d f h = subst Small (same_Some _ _ h) (omega arith, omega arith, omega arith)
+rule_small true true false d f h = subst Small (same_Some _ _ h) (omega arith, omega arith, omega arith)
+rule_small true true true false f h = subst Small (same_Some _ _ h) (omega arith, omega arith, omega arith)
 rule_small true true true true f h = let z : ◌≡◌ {A = ℕ} 0 1 = cc in absurd (omega arith)
 
-line_short : (b e r k : ℕ) (js : List ℕ) → b < 10 ^ 6 → e < 10 ^ 6 → r < 10 ^ 6 → k < 10 ^ 6 → AllByRecursion (λ j. j < 1024) js → length js ≤ 1024 → length (codes "go" ++ (numbers (b ∷ e ∷ r ∷ k ∷ []) ++ (codes " :" ++ (numbers js ++ newline)))) ≤ 8192
+line_short : (b e r k : ℕ) (js : List ℕ) → b < 10 ^ 6 → e < 10 ^ 6 → r < 10 ^ 6 → k < 10 ^ 6 → AllByRecursion (λ j. j < 1024) js → length js ≤ 1024 → length ((codes "go" ++ (numbers (b ∷ e ∷ r ∷ k ∷ []) ++ (codes " :" ++ numbers js))) ++ newline) ≤ 8192
 line_short b e r k js hb he hr hk all few =
     let told = length-numbers 6 (omega arith) (b ∷ e ∷ r ∷ k ∷ []) ((hb, omega arith), ((he, omega arith), ((hr, omega arith), ((hk, omega arith), tt)))) in
     let walked = length-numbers 4 (omega arith) js (All-weaker (λ j. j < 1024) (λ j. (j < 10 ^ 4) × (j < 2 ^ 64)) (λ j h. (omega arith, omega arith)) js all) in
-    omega (arith, length-append (numbers (b ∷ e ∷ r ∷ k ∷ [])) (codes " :" ++ (numbers js ++ newline)), length-append (numbers js) newline, told, walked, few)
+    let told_words = numbers (b ∷ e ∷ r ∷ k ∷ []) in
+    let steps_words = codes " :" ++ numbers js in
+    omega (arith, length-append (told_words ++ steps_words) newline, length-append told_words steps_words, told, walked, few)
 
-journey_short : {L : Type 0} (m : Ops L) (es : List Event) (p : ℕ → Bool) (q : Query) → Listed es → (steps : List ℕ) (x : Answer) (steps' : List ℕ) → Named m es p q steps x steps' → length (printed (Journey x) steps') ≤ 8192
+journey_short : {L : Type 0} (m : Ops L) (es : List Event) (p : ℕ → Bool) (q : Query) → Listed es → (steps : List ℕ) (x : Answer) (steps' : List ℕ) → Named m es p q steps x steps' → length (printed (Ok (Journey x)) steps') ≤ 8192
 journey_short m es p q listed steps x steps' n =
     let js = named x steps' in
     let j = n.fits.journey in
@@ -119,10 +122,10 @@ query_short m events place q b listed (Err f) steps' (same, inl broken) =
     (rule_small (not (eqb q.from q.to)) (leb q.open q.close && leb q.close 999999)
     (leb (n * 2) (length b.log) && (leb 512 (length b.board) && leb (n * 2) (length b.queue))) (leb n (length b.steps)) f broken)
 query_short m events place q b listed (Err f) steps' (same, inr (kept, is, none)) =
-    subst (λ g. length (printed (Refused g) steps') ≤ 8192) (sym is) (refused_short NoJourney steps' (omega arith, omega arith, omega arith))
+    subst (λ g. length (printed (Err g) steps') ≤ 8192) (sym is) (refused_short NoJourney steps' (omega arith, omega arith, omega arith))
 
 -- whatever a command does, the line of its reply is short
-module _ {S X Y U V Z : Type 0} (events : S → List Event) (place : S → ℕ) (listed : (s : S) → Listed (events s)) (b : Desk S X Y U V Z) (long : length b.marks ≡ 1024) (reply : Reply) (a : Desk S X Y U V Z) where
+module _ {S X Y U V Z : Type 0} (events : S → List Event) (place : S → ℕ) (listed : (s : S) → Listed (events s)) (b : Desk S X Y U V Z) (long : length b.marks ≡ 1024) (reply : Result Reply Fault) (a : Desk S X Y U V Z) where
   asks_short : {L P Q W : Type 0} (m : Ops L) (k : Criterion) (q : Query) (x : Handed S P Q W) (y : Handed S P Q W) → Asks events place m k q x reply y → length (printed reply y.steps) ≤ 8192
   asks_short m k q x y asked =
       subst (λ r. length (printed r y.steps) ≤ 8192) (sym asked.told) (query_short m events place q x (listed x.source) asked.answer y.steps asked.queried.answered)

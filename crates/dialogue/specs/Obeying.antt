@@ -2,6 +2,7 @@
 -- events and place tell a source's list and place; b is what the post and the tables are before, a what they are after.
 --     Desk                 the post's source and marks; the work tables for labels that are numbers, and for labels that
 --                          are trips; the queue and the step table
+--     desk source marks t  a source, marks and what the tables t hold
 --     by_number d, by_trip d  what a query with such labels is handed of it
 --     formula k            the plain formula of a measure's letter: its score of a journey
 --     notice_reply r, query_reply r  the reply that an answer is told by
@@ -14,15 +15,21 @@
 --                          measure of the letter
 --     Interprets b line reply a  a line that spells a command is obeyed; any other is refused with 11, and everything
 --                          is as found; the reply's line has 8,192 bytes at most
-use Rattle.std.specs.Prelude.{◌≡◌, ℕ, ◌≤◌, Bool, List, length, pos, ◌-ℤ◌, Ok, Err, Result}
+use Rattle.std.specs.Prelude.{◌≡◌, ℕ, ◌≤◌, Bool, List, length, pos, ◌-ℤ◌, Ok, Err, Option, Result}
+use Rattle.std.specs.Result.{result_map_both}
 use Rattle.faults.specs.declared.Fault.{Fault}
 use Rattle.records.specs.declared.event.Event.{Event}
 use Rattle.measures.specs.Measures.{Ops, Score}
+use Rattle.measures.specs.declared.by_trip.Trip.{Trip}
 use Rattle.measures.specs.Six.{earliest, fastest, fewest_rides, latest, least_riding, least_waiting}
 use Rattle.journeys.specs.declared.query.Query.{Query}
 use Rattle.journeys.specs.Formulas.{Plain}
 use Rattle.journeys.specs.Journeys.{beginning, ending, rides, riding, waiting}
+use Rattle.steps.specs.declared.arrival.Arrival.{Arrival}
+use Rattle.steps.specs.declared.board.Standing.{Standing}
+use Rattle.steps.specs.declared.entry.Entry.{Entry}
 use Rattle.search.specs.declared.answer.Answer.{Answer}
+use Rattle.search.specs.declared.carried.Carried.{Carried}
 use Rattle.commands.specs.declared.command.Command.{Command}
 use Rattle.commands.specs.declared.command.Command.TheVariants.{Find, Reinstate, Tally, Withdraw}
 use Rattle.commands.specs.declared.command.Criterion.{Criterion}
@@ -30,11 +37,12 @@ use Rattle.commands.specs.declared.command.Criterion.TheVariants.{EarliestArriva
 use Rattle.commands.specs.Grammar.{Spells}
 use Rattle.commands.specs.Grammar as grammar
 use Rattle.replies.specs.declared.reply.Reply.{Reply}
-use Rattle.replies.specs.declared.reply.Reply.TheVariants.{Accepted, Count, Journey, Refused}
+use Rattle.replies.specs.declared.reply.Reply.TheVariants.{Accepted, Count, Journey}
 use Rattle.replies.specs.Printed.{printed}
 use Rattle.timetable_post.specs.Calls.{Does, Notice, noticed, reinstatement, tallied, withdrawal}
 use Rattle.timetable_post.specs.Days.{CarriesOn}
-use Rattle.timetable_post.specs.Queries.{Handed, Queried, handed}
+use Rattle.timetable_post.specs.Queries.{Handed, Queried}
+use Rattle.dialogue.specs.declared.tables.PostTables.{PostTables}
 
 pub record Desk (S X Y U V Z : Type 0) : Type 0 where
   pub source : S
@@ -46,17 +54,17 @@ pub record Desk (S X Y U V Z : Type 0) : Type 0 where
   pub queue : List Z
   pub steps : List ℕ
 
-abbrev pub desk : {S X Y U V Z : Type 0} → S → List Bool → List X → List Y → List U → List V → List Z → List ℕ → Desk S X Y U V Z
-desk source marks log board trip_log trip_board queue steps =
+abbrev pub desk : {S : Type 0} → S → List Bool → PostTables → Desk S (Option (Entry (Carried ℕ))) (Option (Standing (Carried ℕ))) (Option (Entry (Carried Trip))) (Option (Standing (Carried Trip))) Arrival
+desk source marks t =
     record {
       source = source;
       marks = marks;
-      log = log;
-      board = board;
-      trip_log = trip_log;
-      trip_board = trip_board;
-      queue = queue;
-      steps = steps;
+      log = t.log.now;
+      board = t.board.now;
+      trip_log = t.trip_log.now;
+      trip_board = t.trip_board.now;
+      queue = t.queue.now;
+      steps = t.steps.now;
     }
 
 abbrev pub formula : Criterion → List Event → List ℕ → Score
@@ -67,49 +75,49 @@ formula LeastRiding es js = (pos (riding es js), pos (ending es js))
 formula FewestRides es js = (pos (rides es js), pos (ending es js))
 formula LeastWaiting es js = (pos (waiting es js), pos (ending es js))
 
-abbrev pub notice_reply : Result (Unit {0}) Fault → Reply
-notice_reply (Ok _) = Accepted
-notice_reply (Err f) = Refused f
+abbrev pub notice_reply : Result (Unit {0}) Fault → Result Reply Fault
+notice_reply r = result_map_both (λ _. Accepted) (λ f. f) r
 
-abbrev pub query_reply : Result Answer Fault → Reply
-query_reply (Ok x) = Journey x
-query_reply (Err f) = Refused f
+abbrev pub query_reply : Result Answer Fault → Result Reply Fault
+query_reply r = result_map_both Journey (λ f. f) r
 
 abbrev pub by_number : {S X Y U V Z : Type 0} → Desk S X Y U V Z → Handed S X Y Z
-by_number d = handed d.source d.marks d.log d.board d.queue d.steps
+by_number d =
+    record { source = d.source; marks = d.marks; log = d.log; board = d.board; queue = d.queue; steps = d.steps }
 
 abbrev pub by_trip : {S X Y U V Z : Type 0} → Desk S X Y U V Z → Handed S U V Z
-by_trip d = handed d.source d.marks d.trip_log d.trip_board d.queue d.steps
+by_trip d =
+    record { source = d.source; marks = d.marks; log = d.trip_log; board = d.trip_board; queue = d.queue; steps = d.steps }
 
-pub record Asks {L S X Y Z : Type 0} (events : S → List Event) (place : S → ℕ) (m : Ops L) (k : Criterion) (q : Query) (x : Handed S X Y Z) (reply : Reply) (y : Handed S X Y Z) : Type 0 where
+pub record Asks {L S X Y Z : Type 0} (events : S → List Event) (place : S → ℕ) (m : Ops L) (k : Criterion) (q : Query) (x : Handed S X Y Z) (reply : Result Reply Fault) (y : Handed S X Y Z) : Type 0 where
   pub answer : Result Answer Fault
   pub told : reply ≡ query_reply answer
   pub queried : Queried m events place q x answer y
   pub plain : Plain m (formula k)
 
 module _ {S X Y U V Z : Type 0} (events : S → List Event) (place : S → ℕ) where
-  pub record Notices (k : Notice) (e : ℕ) (b : Desk S X Y U V Z) (reply : Reply) (a : Desk S X Y U V Z) : Type 0 where
+  pub record Notices (k : Notice) (e : ℕ) (b : Desk S X Y U V Z) (reply : Result Reply Fault) (a : Desk S X Y U V Z) : Type 0 where
     pub answer : Result (Unit {0}) Fault
     pub told : reply ≡ notice_reply answer
     pub does : Does (events b.source) b.marks (noticed k e answer) a.marks
     pub day : CarriesOn (events b.source) b.marks (noticed k e answer) a.marks
-    pub rest : a ≡ desk b.source a.marks b.log b.board b.trip_log b.trip_board b.queue b.steps
+    pub rest : a ≡ record b { marks = a.marks }
 
-  pub record Tallies (b : Desk S X Y U V Z) (reply : Reply) (a : Desk S X Y U V Z) : Type 0 where
+  pub record Tallies (b : Desk S X Y U V Z) (reply : Result Reply Fault) (a : Desk S X Y U V Z) : Type 0 where
     pub count : ℕ
-    pub told : reply ≡ Count count
+    pub told : reply ≡ Ok (Count count)
     pub does : Does (events b.source) b.marks (tallied count) b.marks
     pub day : CarriesOn (events b.source) b.marks (tallied count) b.marks
     pub same : a ≡ b
 
-  abbrev pub AsksByNumber : {L : Type 0} → Ops L → Criterion → Query → Desk S X Y U V Z → Reply → Desk S X Y U V Z → Type 0
+  abbrev pub AsksByNumber : {L : Type 0} → Ops L → Criterion → Query → Desk S X Y U V Z → Result Reply Fault → Desk S X Y U V Z → Type 0
   AsksByNumber m k q b reply a =
       Asks events place m k q (by_number b) reply (by_number a) × (a.trip_log ≡ b.trip_log) × (a.trip_board ≡ b.trip_board)
 
-  abbrev pub AsksByTrip : {L : Type 0} → Ops L → Criterion → Query → Desk S X Y U V Z → Reply → Desk S X Y U V Z → Type 0
+  abbrev pub AsksByTrip : {L : Type 0} → Ops L → Criterion → Query → Desk S X Y U V Z → Result Reply Fault → Desk S X Y U V Z → Type 0
   AsksByTrip m k q b reply a = Asks events place m k q (by_trip b) reply (by_trip a) × (a.log ≡ b.log) × (a.board ≡ b.board)
 
-  abbrev pub Obeys : Desk S X Y U V Z → Command → Reply → Desk S X Y U V Z → Type 0
+  abbrev pub Obeys : Desk S X Y U V Z → Command → Result Reply Fault → Desk S X Y U V Z → Type 0
   Obeys b (Withdraw event) reply a = Notices withdrawal event b reply a
   Obeys b (Reinstate event) reply a = Notices reinstatement event b reply a
   Obeys b Tally reply a = Tallies b reply a
@@ -120,7 +128,7 @@ module _ {S X Y U V Z : Type 0} (events : S → List Event) (place : S → ℕ) 
   Obeys b (Find FewestRides q) reply a = AsksByNumber fewest_rides FewestRides q b reply a
   Obeys b (Find LeastWaiting q) reply a = AsksByNumber least_waiting LeastWaiting q b reply a
 
-  pub record Interprets (b : Desk S X Y U V Z) (line : List ℕ) (reply : Reply) (a : Desk S X Y U V Z) : Type 0 where
+  pub record Interprets (b : Desk S X Y U V Z) (line : List ℕ) (reply : Result Reply Fault) (a : Desk S X Y U V Z) : Type 0 where
     pub obeys : (c : Command) → Spells line c → Obeys b c reply a
-    pub refuses : (f : Fault) → grammar.Refused line f → (reply ≡ Refused f) × (a ≡ b)
+    pub refuses : (f : Fault) → grammar.Refused line f → (reply ≡ Err f) × (a ≡ b)
     pub short : length (printed reply a.steps) ≤ 8192

@@ -1,90 +1,98 @@
 // What a post does on a line.
-ghost use Rattle.std.specs.Result.{result_map_both};
 ghost use Rattle.std.specs.Prelude.{◌≡◌};
-ghost use Rattle.dialogue.specs.Obeying.{Interprets, Obeys, desk, notice_reply, query_reply};
+ghost use Rattle.measures.specs.Six.{fastest};
+ghost use Rattle.timetable_post.specs.Queries.{Queried};
+ghost use Rattle.dialogue.specs.Obeying.{Interprets, Obeys, by_number, by_trip, desk, query_reply};
+ghost use Rattle.dialogue.specs.Tables.{SamePostTables};
 
+use crate::tables::PostTables;
 use commands::{Command, Criterion, parse};
 use faults::Fault;
 use journeys::{Query, six_measures_are_plain};
 use measures::{
-    EarliestArrival, Fastest, FewestRides, LatestDeparture, LeastRiding, LeastWaiting, Trip,
+    EarliestArrival, Fastest, FewestRides, LatestDeparture, LeastRiding, LeastWaiting, Measure,
 };
 use replies::Reply;
-use search::{Answer, Carried};
+use search::{Answer, Tables};
 use sources::Source;
-use steps::{Arrival, Entry, Standing};
 use timetable_post::Post;
 
-// The reply to a notice.
-fn notice_reply(answer: Result<(), Fault>) -> Reply
-    ensures { result ≡ notice_reply answer }
+// Queries the post under a measure whose labels are numbers, in the tables for these. Beside the like for trips: what they
+// share is the call.
+fn ask_by_number<S: Source + Drop, M: Measure<Label = u32>>(
+    post: &mut Post<S>,
+    query: Query,
+    tables: &mut PostTables<'_>,
+) -> Result<Answer, Fault>
+    ensures queried { Queried M.ops S.events S.place query (by_number (desk post.old.source post.old.marks tables.old)) result (by_number (desk post.new.source post.new.marks tables.new)) }
+    ensures trips { (tables.new.trip_log.now ≡ tables.old.trip_log.now) × (tables.new.trip_board.now ≡ tables.old.trip_board.now) }
+    ensures same { SamePostTables tables.old tables.new }
 {
-    match answer {
-        Ok(()) => Reply::Accepted,
-        Err(fault) => Reply::Refused(fault),
-    }
+    let mut handed = Tables {
+        log: tables.log,
+        board: tables.board,
+        queue: tables.queue,
+        steps: tables.steps,
+    };
+    post.query::<M>(query, &mut handed)
 }
 
-// The reply to a query.
-fn query_reply(answer: Result<Answer, Fault>) -> Reply
-    ensures { result ≡ query_reply answer }
+// Queries the post under the measure whose labels are trips, in the tables for these.
+fn ask_by_trip<S: Source + Drop>(
+    post: &mut Post<S>,
+    query: Query,
+    tables: &mut PostTables<'_>,
+) -> Result<Answer, Fault>
+    ensures queried { Queried fastest S.events S.place query (by_trip (desk post.old.source post.old.marks tables.old)) result (by_trip (desk post.new.source post.new.marks tables.new)) }
+    ensures numbers { (tables.new.log.now ≡ tables.old.log.now) × (tables.new.board.now ≡ tables.old.board.now) }
+    ensures same { SamePostTables tables.old tables.new }
 {
-    match answer {
-        Ok(journey) => Reply::Journey(journey),
-        Err(fault) => Reply::Refused(fault),
-    }
+    let mut handed = Tables {
+        log: tables.trip_log,
+        board: tables.trip_board,
+        queue: tables.queue,
+        steps: tables.steps,
+    };
+    post.query::<Fastest>(query, &mut handed)
 }
 
-// Queries the post under the measure of a letter.
+// Queries the post under the measure of a letter. The six are types with labels of their own, which no `dyn` holds.
 fn find<S: Source + Drop>(
     post: &mut Post<S>,
     criterion: Criterion,
     query: Query,
-    log: &mut [Option<Entry<Carried<u32>>>],
-    board: &mut [Option<Standing<Carried<u32>>>],
-    trip_log: &mut [Option<Entry<Carried<Trip>>>],
-    trip_board: &mut [Option<Standing<Carried<Trip>>>],
-    queue: &mut [Arrival],
-    steps: &mut [usize],
-) -> Reply
-    ensures { Obeys S.events S.place (desk post.old.source post.old.marks log.old board.old trip_log.old trip_board.old queue.old steps.old) (Command.Find criterion query) result (desk post.new.source post.new.marks log.new board.new trip_log.new trip_board.new queue.new steps.new) }
+    tables: &mut PostTables<'_>,
+) -> Result<Answer, Fault>
+    ensures obeys { Obeys S.events S.place (desk post.old.source post.old.marks tables.old) (Command.Find criterion query) (query_reply result) (desk post.new.source post.new.marks tables.new) }
+    ensures same { SamePostTables tables.old tables.new }
 {
     six_measures_are_plain();
-    let answer = match criterion {
-        Criterion::EarliestArrival => post.query::<EarliestArrival>(
-            query, log, board, queue, steps,
-        ),
-        Criterion::LatestDeparture => post.query::<LatestDeparture>(
-            query, log, board, queue, steps,
-        ),
-        Criterion::Fastest => post.query::<Fastest>(query, trip_log, trip_board, queue, steps),
-        Criterion::LeastRiding => post.query::<LeastRiding>(query, log, board, queue, steps),
-        Criterion::FewestRides => post.query::<FewestRides>(query, log, board, queue, steps),
-        Criterion::LeastWaiting => post.query::<LeastWaiting>(query, log, board, queue, steps),
-    };
-    query_reply(answer)
+    match criterion {
+        Criterion::EarliestArrival => ask_by_number::<S, EarliestArrival>(post, query, tables),
+        Criterion::LatestDeparture => ask_by_number::<S, LatestDeparture>(post, query, tables),
+        Criterion::Fastest => ask_by_trip(post, query, tables),
+        Criterion::LeastRiding => ask_by_number::<S, LeastRiding>(post, query, tables),
+        Criterion::FewestRides => ask_by_number::<S, FewestRides>(post, query, tables),
+        Criterion::LeastWaiting => ask_by_number::<S, LeastWaiting>(post, query, tables),
+    }
 }
 
-// Does what a command says.
+// Does what a command says. The post has an owner, and the tables are lent for a time, so they stand beside each other.
 fn obey<S: Source + Drop>(
     post: &mut Post<S>,
     command: Command,
-    log: &mut [Option<Entry<Carried<u32>>>],
-    board: &mut [Option<Standing<Carried<u32>>>],
-    trip_log: &mut [Option<Entry<Carried<Trip>>>],
-    trip_board: &mut [Option<Standing<Carried<Trip>>>],
-    queue: &mut [Arrival],
-    steps: &mut [usize],
-) -> Reply
-    ensures { Obeys S.events S.place (desk post.old.source post.old.marks log.old board.old trip_log.old trip_board.old queue.old steps.old) command result (desk post.new.source post.new.marks log.new board.new trip_log.new trip_board.new queue.new steps.new) }
+    tables: &mut PostTables<'_>,
+) -> Result<Reply, Fault>
+    ensures obeys { Obeys S.events S.place (desk post.old.source post.old.marks tables.old) command result (desk post.new.source post.new.marks tables.new) }
+    ensures same { SamePostTables tables.old tables.new }
 {
     match command {
-        Command::Withdraw { event } => notice_reply(post.withdraw(event as usize)),
-        Command::Reinstate { event } => notice_reply(post.reinstate(event as usize)),
-        Command::Tally => Reply::Count(post.tally()),
-        Command::Find { criterion, query } => find(
-            post, criterion, query, log, board, trip_log, trip_board, queue, steps,
-        ),
+        Command::Withdraw { event } => post.withdraw(event as usize).map(|()| Reply::Accepted),
+        Command::Reinstate { event } => post.reinstate(event as usize).map(|()| Reply::Accepted),
+        Command::Tally => Ok(Reply::Count(post.tally())),
+        Command::Find { criterion, query } => {
+            find(post, criterion, query, tables).map(|answer| Reply::Journey(answer))
+        }
     }
 }
 
@@ -93,19 +101,10 @@ fn obey<S: Source + Drop>(
 pub fn answer<S: Source + Drop>(
     post: &mut Post<S>,
     line: &[u8],
-    log: &mut [Option<Entry<Carried<u32>>>],
-    board: &mut [Option<Standing<Carried<u32>>>],
-    trip_log: &mut [Option<Entry<Carried<Trip>>>],
-    trip_board: &mut [Option<Standing<Carried<Trip>>>],
-    queue: &mut [Arrival],
-    steps: &mut [usize],
-) -> Reply
-    ensures { Interprets S.events S.place (desk post.old.source post.old.marks log.old board.old trip_log.old trip_board.old queue.old steps.old) line.now result (desk post.new.source post.new.marks log.new board.new trip_log.new trip_board.new queue.new steps.new) }
+    tables: &mut PostTables<'_>,
+) -> Result<Reply, Fault>
+    ensures interprets { Interprets S.events S.place (desk post.old.source post.old.marks tables.old) line.now result (desk post.new.source post.new.marks tables.new) }
+    ensures same { SamePostTables tables.old tables.new }
 {
-    match parse(line) {
-        Ok(command) => obey(
-            post, command, log, board, trip_log, trip_board, queue, steps,
-        ),
-        Err(fault) => Reply::Refused(fault),
-    }
+    obey(post, parse(line)?, tables)
 }

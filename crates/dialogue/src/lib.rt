@@ -2,5 +2,7 @@
 #![tactic(auto)]
 
 mod interpreter;
+mod tables;
 
 pub use interpreter::answer;
+pub use tables::PostTables;

@@ -1,8 +1,9 @@
 -- How each fault is told. Assumes nothing.
 --     report n l p     number n, layer l, place p
 --     reported f       what a fault is told as, case by case
+--     told r           the text of a report: `no`, and the three numbers in decimal with a space before each
 -- The layers are 1 block, 2 record, 3 list, 4 command, 5 post, 6 query.
-use Rattle.std.specs.Prelude.{ℕ}
+use Rattle.std.specs.Prelude.{ℕ, List, ◌++◌, codes, decimal}
 use Rattle.faults.specs.declared.Fault.{Fault}
 use Rattle.faults.specs.declared.Fault.TheVariants.{PartialRecord, TooManyRecords, WrongKind, SpareByteSet, EqualStops, DurationOutOfRange, NoRepetition, TimeOutOfRange, OutOfOrder, TooManyRides, NotACommand, UnknownEvent, NoticeWithoutEffect, EqualQueryStops, BadWindow, WorkTableTooShort, StepTableTooShort, NoJourney}
 use Rattle.faults.specs.declared.Report.{Report}
@@ -29,3 +30,6 @@ reported BadWindow = report 15 6 0
 reported WorkTableTooShort = report 16 6 0
 reported StepTableTooShort = report 17 6 0
 reported NoJourney = report 18 6 0
+
+abbrev pub told : Report → List ℕ
+told r = codes "no " ++ (decimal r.number ++ (codes " " ++ (decimal r.layer ++ (codes " " ++ decimal r.place))))

@@ -1,8 +1,11 @@
 // Every refusal of the engine: one type, carried by `?` from a record up to the program.
 #![tactic(auto)]
 
-ghost use Rattle.std.specs.Prelude.{◌≡◌};
-ghost use Rattle.faults.specs.Numbered.{reported};
+ghost use Rattle.std.specs.Prelude.{◌≡◌, Some};
+ghost use Rattle.faults.specs.Numbered.{report, reported, told};
+
+use std::error::Error;
+use std::fmt;
 
 // Why a call refused. `place` is where: a position, a limit, a length or an event number, by the case;
 // a case without one has place 0.
@@ -34,7 +37,7 @@ pub enum Fault {
     NoJourney,
 }
 
-// A fault as it is told to the outside.
+// A fault as it is told to the outside, which knows numbers only: a line of output, or a call across C.
 #[derive(Clone, Copy, PartialEq, Eq, Debug)]
 pub struct Report {
     pub number: u8,
@@ -42,12 +45,25 @@ pub struct Report {
     pub place: usize,
 }
 
-impl Fault {
-    // The fault's number, layer and place.
-    pub fn report(self) -> Report
-        ensures { result ≡ reported self }
+impl Report {
+    // The report of these numbers.
+    pub fn new(number: u8, layer: u8, place: usize) -> Report
+        ensures { result ≡ report number layer place }
     {
-        let (number, layer, place) = match self {
+        Report {
+            number,
+            layer,
+            place,
+        }
+    }
+}
+
+// The fault's number, layer and place.
+impl From<Fault> for Report {
+    ghost from_gives = { λ f r. r ≡ reported f };
+
+    fn from(fault: Fault) -> Report {
+        let (number, layer, place) = match fault {
             Fault::PartialRecord { place } => (1, 1, place),
             Fault::TooManyRecords { place } => (2, 1, place),
             Fault::WrongKind { place } => (3, 2, place),
@@ -67,10 +83,26 @@ impl Fault {
             Fault::StepTableTooShort => (17, 6, 0),
             Fault::NoJourney => (18, 6, 0),
         };
-        Report {
-            number,
-            layer,
-            place,
-        }
+        Report::new(number, layer, place)
     }
 }
+
+// As `no` with number, layer and place.
+impl fmt::Display for Report {
+    ghost output = { λ r. Some (told r) };
+
+    fn fmt<W: fmt::Write>(&self, f: &mut fmt::Formatter<W>) -> fmt::Result {
+        write!(f, "no {} {} {}", self.number, self.layer, self.place)
+    }
+}
+
+// As its report.
+impl fmt::Display for Fault {
+    ghost output = { λ f. Some (told (reported f)) };
+
+    fn fmt<W: fmt::Write>(&self, f: &mut fmt::Formatter<W>) -> fmt::Result {
+        write!(f, "{}", Report::from(*self))
+    }
+}
+
+impl Error for Fault {}

@@ -1,29 +1,15 @@
--- A list of numbers, one after another, as the judge goes through it.
-use Rattle.std.proofs.Common.{◌≡◌, ℕ, ◌+◌, ◌-◌, ◌<◌, ◌≤◌, Bool, List, [], ◌∷◌, length, get_or, drop, sym, refl, ap, ◌∙◌, subst, arith}
-use Rattle.std.proofs.lemmas.List.{drop_more}
+-- What the judge has at hand of a list of numbers is what the definitions say of it.
+use Rattle.std.proofs.Common.{◌≡◌, ℕ, ◌-◌, ◌<◌, ◌≤◌, Bool, List, [], ◌∷◌, length, get_or, sym, refl, ap, ◌∙◌, subst, arith}
 use Rattle.records.specs.declared.event.Event.{Event}
 use Rattle.records.specs.Events.{time_of}
 use Rattle.measures.specs.Measures.{Ops, Score}
 use Rattle.journeys.specs.declared.judgment.Totals.{Totals}
 use Rattle.journeys.specs.declared.judgment.Verdict.{Verdict}
 use Rattle.journeys.specs.declared.query.Query.{Query}
-use Rattle.journeys.specs.Formulas.{along, label_of, score_of, through}
-use Rattle.journeys.specs.Journeys.{Chained, Fits, Link, beginning, end_of, ending, final, final_from, first, numbered, openings, rides, riding, total}
+use Rattle.journeys.specs.Formulas.{along, label_of, score_of}
+use Rattle.journeys.specs.Journeys.{Chained, Fits, Link, beginning, end_of, ending, final, final_from, first, numbered, rides, riding}
 use Rattle.journeys.proofs.Spans.{ending-sum}
 use Rattle.journeys.specs.Verdicts.{Asked, Chain, totals_of, verdict_of}
-
-pub total-drop : (f : ℕ → ℕ) (js : List ℕ) (i : ℕ) → i < length js → total f (drop i js) ≡ f (get_or js i 0) + total f (drop (i + 1) js)
-total-drop f js i h = ap (total f) (drop_more js i 0 h)
-
-abbrev totalled : ℕ → ℕ → ℕ → Totals
-totalled a b c = record { riding = a; rides = b; openings = c }
-
-pub totals_are : (t : Totals) (es : List Event) (js : List ℕ) → t.riding ≡ riding es js → t.rides ≡ rides es js → t.openings ≡ openings es js → t ≡ totals_of es js
-totals_are t es js a b c =
-    ap (λ x. totalled x t.rides t.openings) a ∙ ap (λ x. totalled (riding es js) x t.openings) b ∙ ap (totalled (riding es js) (rides es js)) c
-
-pub along-drop : {L : Type 0} (m : Ops L) (es : List Event) (l : L) (js : List ℕ) (i : ℕ) → i < length js → along m es l (drop i js) ≡ along m es (through m (numbered es (get_or js i 0)) l) (drop (i + 1) js)
-along-drop m es l js i h = ap (along m es l) (drop_more js i 0 h)
 
 -- the ends of a list by their places
 first_place : (js : List ℕ) → first js ≡ get_or js 0 0

@@ -8,6 +8,7 @@ use crate::query::Query;
 use crate::travel::{end_of, label_through, leaves_at, reaches_at};
 use measures::Measure;
 use records::Event;
+use std::fmt;
 
 // What is said of a journey that fits.
 #[derive(Clone, Copy, PartialEq, Eq, Debug)]
@@ -17,6 +18,24 @@ pub struct Verdict {
     pub riding: u32,
     pub rides: usize,
     pub score: (i64, i64),
+}
+
+// In words, with the score in brackets.
+impl fmt::Display for Verdict {
+    fn fmt<W: fmt::Write>(&self, f: &mut fmt::Formatter<W>) -> fmt::Result {
+        let Verdict {
+            begin,
+            end,
+            riding,
+            rides,
+            score,
+        } = *self;
+        let (first, second) = score;
+        write!(
+            f,
+            "from {begin} to {end}, riding {riding}, rides {rides}, score ({first}; {second})"
+        )
+    }
 }
 
 // Sums over a list of event numbers.
@@ -42,7 +61,7 @@ pub fn is_in_force(marks: &[bool], number: usize) -> bool
     !marks.get(number).copied().unwrap_or(false)
 }
 
-// Whether a number is that of an event in force.
+// Whether a number is that of an event in force. Events and marks are lent beside each other, as they are lent to the judge.
 fn is_known(events: &[Event], marks: &[bool], number: usize) -> bool
     ensures { result ≡ (nat_lt number (length events.now) && in_force marks.now number) }
 {

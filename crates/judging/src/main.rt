@@ -6,79 +6,37 @@
 //     j FROM TO OPEN CLOSE CALL STEP.. prints 'none', or begin, end, riding, rides and the six scores
 #![tactic(auto)]
 
-use anyhow::anyhow;
 use journeys::{Query, Verdict, judge};
 use measures::{
     EarliestArrival, Fastest, FewestRides, LatestDeparture, LeastRiding, LeastWaiting, Measure,
 };
-use records::Event;
+use scripts::Day;
 use std::alloc::Global;
 use std::io::{BufRead, BufReader};
 
-// A day under judgment.
-#[derive(Drop)]
-struct Day {
-    events: Vec<Event>,
-    marks: Vec<bool>,
+// The words of a line before the first step.
+const WORDS_OF_A_QUESTION: usize = 6;
+
+// What a list of event numbers is under a measure, if it is a journey that fits.
+fn verdict<M: Measure>(day: &Day, query: Query, steps: &[usize]) -> Option<Verdict> {
+    judge::<M>(&day.events, &day.marks, query, steps)
 }
 
-// The number at a place of a line, or an error where there is none.
-fn number(numbers: &[u32], place: usize) -> anyhow::Result<u32> {
-    match numbers.get(place) {
-        Some(n) => Ok(*n),
-        None => Err(anyhow!("a number is missing")),
-    }
+// The scores of a list under the other five measures, or none where it does not fit.
+fn scores(day: &Day, query: Query, steps: &[usize]) -> Option<[(i64, i64); 5]> {
+    Some([
+        verdict::<LatestDeparture>(day, query, steps)?.score,
+        verdict::<Fastest>(day, query, steps)?.score,
+        verdict::<LeastRiding>(day, query, steps)?.score,
+        verdict::<FewestRides>(day, query, steps)?.score,
+        verdict::<LeastWaiting>(day, query, steps)?.score,
+    ])
 }
 
-fn stop(numbers: &[u32], place: usize) -> anyhow::Result<u8> {
-    Ok(u8::try_from(number(numbers, place)?)?)
-}
-
-fn query(numbers: &[u32]) -> anyhow::Result<Query> {
-    Ok(Query {
-        from: stop(numbers, 0)?,
-        to: stop(numbers, 1)?,
-        open: number(numbers, 2)?,
-        close: number(numbers, 3)?,
-        call: number(numbers, 4)? == 1,
-    })
-}
-
-fn opening(numbers: &[u32]) -> anyhow::Result<Event> {
-    Ok(Event::Opening {
-        stop: stop(numbers, 0)?,
-        minute: number(numbers, 1)?,
-    })
-}
-
-fn ride(numbers: &[u32]) -> anyhow::Result<Event> {
-    Ok(Event::Ride {
-        from: stop(numbers, 0)?,
-        to: stop(numbers, 1)?,
-        departure: number(numbers, 2)?,
-        duration: u16::try_from(number(numbers, 3)?)?,
-    })
-}
-
-fn score<M: Measure>(day: &Day, query: Query, steps: &[usize]) -> (i64, i64) {
-    match judge::<M>(&day.events, &day.marks, query, steps) {
-        Some(verdict) => verdict.score,
-        None => (-1, -1),
-    }
-}
-
-fn print_scores(rt: &impl Print, day: &Day, query: Query, steps: &[usize]) -> anyhow::Result<()> {
-    let (l1, l2) = score::<LatestDeparture>(day, query, steps);
-    let (f1, f2) = score::<Fastest>(day, query, steps);
-    let (s1, s2) = score::<LeastRiding>(day, query, steps);
-    let (n1, n2) = score::<FewestRides>(day, query, steps);
-    let (c1, c2) = score::<LeastWaiting>(day, query, steps);
-    println!(rt; " {l1} {l2} {f1} {f2} {s1} {s2} {n1} {n2} {c1} {c2}")?;
-    Ok(())
-}
-
+// Prints what is said of a list, and its six scores.
 fn print_judgment(rt: &impl Print, day: &Day, query: Query, steps: &[usize]) -> anyhow::Result<()> {
-    let Some(verdict) = judge::<EarliestArrival>(&day.events, &day.marks, query, steps) else {
+    let earliest = verdict::<EarliestArrival>(day, query, steps);
+    let (Some(verdict), Some(others)) = (earliest, scores(day, query, steps)) else {
         println!(rt; "none")?;
         return Ok(());
     };
@@ -89,59 +47,22 @@ fn print_judgment(rt: &impl Print, day: &Day, query: Query, steps: &[usize]) -> 
         rides,
         score,
     } = verdict;
-    let (e1, e2) = score;
-    print!(rt; "{begin} {end} {riding} {rides} {e1} {e2}")?;
-    print_scores(rt, day, query, steps)
-}
-
-// The numbers of a line, behind its first word.
-fn numbers(heap: Global, line: &str) -> anyhow::Result<Vec<u32>> {
-    let mut found = Vec::new(heap);
-    for word in line.split(' ').skip(1) {
-        found.push(word.parse::<u32>()?)?;
+    let (first, second) = score;
+    print!(rt; "{begin} {end} {riding} {rides} {first} {second}")?;
+    for (first, second) in others {
+        print!(rt; " {first} {second}")?;
     }
-    Ok(found)
-}
-
-fn steps(heap: Global, numbers: &[u32]) -> anyhow::Result<Vec<usize>> {
-    let mut found = Vec::new(heap);
-    for n in numbers.iter().skip(5) {
-        found.push(*n as usize)?;
-    }
-    Ok(found)
-}
-
-// Puts an event out of force.
-fn mark(day: &mut Day, number: u32) -> anyhow::Result<()> {
-    let number = number as usize;
-    for _ in day.marks.len()..number + 1 {
-        day.marks.push(false)?;
-    }
-    if number < day.marks.len() {
-        day.marks[number] = true;
-    }
+    println!(rt; "")?;
     Ok(())
 }
 
-// Judges the list that a line's numbers ask for.
-fn judge_line(rt: &HostRuntime, day: &Day, numbers: &[u32]) -> anyhow::Result<()> {
-    print_judgment(rt, day, query(numbers)?, &steps(rt.alloc(), numbers)?)
-}
-
-fn answer(rt: &HostRuntime, day: &mut Day, line: &str) -> anyhow::Result<()> {
-    let numbers = numbers(rt.alloc(), line)?;
-    match line.as_bytes().first().copied() {
-        Some(b'd') => {
-            day.events.clear();
-            day.marks.clear();
-        }
-        Some(b'o') => day.events.push(opening(&numbers)?)?,
-        Some(b'r') => day.events.push(ride(&numbers)?)?,
-        Some(b'x') => mark(day, number(&numbers, 0)?)?,
-        Some(b'j') => judge_line(rt, day, &numbers)?,
-        _ => return Err(anyhow!("a line begins with no known letter")),
+// The event numbers that stand behind the question of a line.
+fn steps(heap: Global, line: &str) -> anyhow::Result<Vec<usize>> {
+    let mut found = Vec::new(heap);
+    for word in line.split(' ').skip(WORDS_OF_A_QUESTION) {
+        found.push(word.parse::<usize>()?)?;
     }
-    Ok(())
+    Ok(found)
 }
 
 fn main(rt: HostRuntime) -> anyhow::Result<()> {
@@ -150,7 +71,10 @@ fn main(rt: HostRuntime) -> anyhow::Result<()> {
         marks: Vec::new(rt.alloc()),
     };
     for line in BufReader::new(rt.alloc(), rt.stdin())?.lines(rt.alloc()) {
-        answer(&rt, &mut day, line?.as_str())?;
+        let line = line?;
+        if let Some(query) = day.take(line.as_str().parse()?)? {
+            print_judgment(&rt, &day, query, &steps(rt.alloc(), line.as_str())?)?;
+        }
     }
     Ok(())
 }

@@ -1,9 +1,9 @@
 -- Drawing a least departure from the queue of the next ones.
-use Rattle.std.proofs.Common.{◌≡◌, ℕ, zero, suc, ◌+◌, ◌-◌, ◌*◌, ◌/◌, ◌<◌, ◌≤◌, Bool, true, false, cond, ◌&&◌, eqb, List, [], ◌∷◌, ◌++◌, map, length, get_or, take, set, Some, None, sum_by, Option, Result, sym, refl, ap, ◌∙◌, subst, ⊎_elim, suc-mul, arith}
-use Rattle.std.proofs.lemmas.List.{get_or_default, get_or-map, get_or_past, length-map, get_or-set_other, get_or-set_same, get_or-take, length-take, length-take-le, take_more}
+use Rattle.std.proofs.Common.{◌≡◌, ℕ, zero, suc, ◌+◌, ◌-◌, ◌<◌, ◌≤◌, Bool, true, false, cond, ◌&&◌, eqb, List, [], ◌∷◌, ◌++◌, length, get_or, take, set, Some, None, sum_by, Option, Result, sym, refl, ap, ◌∙◌, subst, ⊎_elim, arith}
+use Rattle.std.proofs.lemmas.List.{length-take-le, take_more}
 use Rattle.std.proofs.lemmas.List.Sorted.{sum_by-IsPermutation}
 use Rattle.std.proofs.lemmas.List.Sums.{sum_by-cons, sum_by_push}
-use Rattle.std.proofs.lemmas.Bool.{cases_eq, cases_lt, ne_eqb}
+use Rattle.std.proofs.lemmas.Bool.{cases_lt, ne_eqb}
 use Rattle.std.proofs.lemmas.Bool.Decides.{nat_tests}
 use Rattle.std.specs.Option.{option_to_list}
 use Rattle.std.specs.List.{AllByRecursion}
@@ -14,10 +14,8 @@ use Rattle.queue.proofs.Runs.{empty_holds_none}
 use Rattle.queue.proofs.Sorts.{put_accepted}
 use Rattle.lines.specs.declared.cursor.Cursor.{Cursor}
 use Rattle.lines.specs.declared.departure.Departure.{Departure}
-use Rattle.lines.specs.declared.line.Line.{Line}
-use Rattle.lines.specs.Lines.{no_line}
 use Rattle.lines.specs.Departures.{before, departing, gather, run_from}
-use Rattle.lines.specs.Merges.{Filled, Queued, beyond, cursor_of, heads, left_of, lefts, next_of, no_cursor, no_departure, onward}
+use Rattle.lines.specs.Merges.{Queued, heads, left_of, lefts, next_of, no_cursor, onward}
 use Rattle.lines.proofs.Gathers.{gather_cons, gather_none, gather_push, gather-set, gather_zero}
 
 -- the queue, by its sums
@@ -31,6 +29,13 @@ queued slots used x answer slots' used' room h =
       long = a.long;
       count = omega (arith, a.count);
     }
+
+-- a queue that holds the next departures of the lines with the cursors cs
+pub record Filled (cs : List Cursor) (slots : List Departure) (used : ℕ) : Type 0 where
+  pub bag : (f : Departure → ℕ) → sum_by f (held slots used) ≡ sum_by f (heads cs)
+  pub heaped : Heaped before (held slots used)
+  pub long : length slots ≡ 32
+  pub count : used ≤ length cs
 
 pub filled_more : (cs : List Cursor) (i : ℕ) (slots : List Departure) (used : ℕ) (slots' : List Departure) (used' : ℕ) → i < length cs
     → Filled (take i cs) slots used → Queued slots used (next_of i (get_or cs i no_cursor)) slots' used' → Filled (take (i + 1) cs) slots' used'
@@ -46,27 +51,6 @@ filled_more cs i slots used slots' used' h l q =
       long = q.long ∙ l.long;
       count = omega (arith, q.count, l.count);
     }
-
--- heap order as a fact of each slot and its parent's
-pub heaped_from_parents : (slots : List Departure) (used : ℕ) → used ≤ length slots
-    → ((k : ℕ) → 0 < k → k < used → before (get_or slots k no_departure) (get_or slots ((k - 1) / 2) no_departure) ≡ false) → Heaped before (held slots used)
-heaped_from_parents slots used w h p k d lo hi l =
-    let n = length-take used slots in
-    let i : k < used = omega arith in
-    let e : (k - 1) / 2 ≡ p = omega arith in
-    let q : p < used = omega arith in
-    let at : (j : ℕ) → j < used → get_or (held slots used) j d ≡ get_or slots j no_departure =
-    λ j s. get_or-take used slots j d s ∙ get_or_default slots j d no_departure (omega arith) in
-    rw (at k i, at p q, ← e) (h k (omega arith) i)
-
-pub parents_from_heaped : (slots : List Departure) (used : ℕ) → used ≤ length slots → Heaped before (held slots used)
-    → (k : ℕ) → 0 < k → k < used → before (get_or slots k no_departure) (get_or slots ((k - 1) / 2) no_departure) ≡ false
-parents_from_heaped slots used w h k lo hi =
-    let n = length-take used slots in
-    let p = (k - 1) / 2 in
-    let q : p < used = omega arith in
-    let b = h p k no_departure (omega arith) (omega arith) (omega arith) in
-    rw (← get_or-take used slots k no_departure hi, ← get_or-take used slots p no_departure q) b
 
 -- a cursor with no next departure has none left
 none_from_next : (i m v n : ℕ) → sum_by (λ _. 1) (option_to_list (cond (eqb n 0) None (Some (departing m i)))) ≡ 0 → run_from m v i n ≡ []
@@ -155,14 +139,23 @@ module _ (cs : List Cursor) (slots : List Departure) (used : ℕ) (bag : (f : De
       (sym (bag (λ _. 1)) ∙ ap (sum_by (λ _. 1)) (empty_holds_none slots used slots' used' e))
 
   module _ (x : Departure) (slots₁ : List Departure) (used₁ : ℕ) (t : Taken before slots used x slots₁ used₁) where
+    abbrev c : Cursor
+    c = get_or cs x.line no_cursor
+
     taken_sum : (f : Departure → ℕ) → f x + sum_by f (held slots₁ used₁) ≡ sum_by f (heads cs)
     taken_sum f = sym (sum_by-cons f x (held slots₁ used₁)) ∙ sum_by-IsPermutation f (held slots used) (x ∷ held slots₁ used₁) t.bag ∙ bag f
 
-    pub found : (x.line < length cs) × (next_of x.line (get_or cs x.line no_cursor) ≡ Some x)
+    found : (x.line < length cs) × (next_of x.line c ≡ Some x)
     found =
         let r = head_found x cs 0 (omega (arith, taken_sum (same x), same_self x)) in
         let e : r.0 ≡ x.line = omega (arith, r.1) in
         (omega (arith, r.2), subst (λ k. next_of x.line (get_or cs k no_cursor) ≡ Some x) e r.3)
+
+    pub known_line : x.line < length cs
+    known_line = found.0
+
+    pub ride_left : 0 < c.left
+    ride_left = (next_parts x.line c.minute c.interval c.left x found.1).0
 
     pub least_left : Heaped before (held slots used) → AllByRecursion (λ y. before y x ≡ false) (lefts cs)
     least_left h =
@@ -170,50 +163,22 @@ module _ (cs : List Cursor) (slots : List Departure) (used : ℕ) (bag : (f : De
         (gather_zero (λ j c. option_to_list (next_of j c)) (sooner x) left_of (λ i c. left_late x i c.minute c.interval c.left) 0 cs
         (sym (bag (sooner x)) ∙ none_sooner x (held slots used) (t.least h).none_before))
 
-    module _ (slots₂ : List Departure) (used₂ : ℕ) (cs' : List Cursor) (c : Cursor) (at : c ≡ get_or cs x.line no_cursor)
-        (after : cs' ≡ set cs x.line (onward c)) (q : Queued slots₁ used₁ (next_of x.line (onward c)) slots₂ used₂) where
-      here : next_of x.line c ≡ Some x
-      here = subst (λ d. next_of x.line d ≡ Some x) (sym at) found.1
-
+    -- its line's next departure is put in, where there is one
+    module _ (cs' : List Cursor) (after : cs' ≡ set cs x.line (onward c)) where
       pub drawn_bag : (f : Departure → ℕ) → sum_by f (lefts cs) ≡ f x + sum_by f (lefts cs')
       drawn_bag f =
           let s = gather-set left_of f cs 0 x.line x.line (onward c) no_cursor (omega arith) found.0 in
           let e = ap (λ l. sum_by f (lefts l)) after in
-          let o = ap (λ d. sum_by f (left_of x.line d)) at in
-          let p = ap (sum_by f) (next_parts x.line c.minute c.interval c.left x here).2 in
+          let p = ap (sum_by f) (next_parts x.line c.minute c.interval c.left x found.1).2 in
           let r = sum_by-cons f x (left_of x.line (onward c)) in
           omega arith
 
-      pub queue_bag : (f : Departure → ℕ) → sum_by f (held slots₂ used₂) ≡ sum_by f (heads cs')
-      queue_bag f =
+      pub queue_bag : (next : Option Departure) (slots₂ : List Departure) (used₂ : ℕ) → next ≡ next_of x.line (onward c)
+          → Queued slots₁ used₁ next slots₂ used₂ → (f : Departure → ℕ) → sum_by f (held slots₂ used₂) ≡ sum_by f (heads cs')
+      queue_bag next slots₂ used₂ n q f =
           let s = gather-set (λ j d. option_to_list (next_of j d)) f cs 0 x.line x.line (onward c) no_cursor (omega arith) found.0 in
           let e = ap (λ l. sum_by f (heads l)) after in
-          let o = ap (λ d. sum_by f (option_to_list (next_of x.line d))) at in
-          let p = ap (λ d. sum_by f (option_to_list d)) here in
+          let o = ap (λ d. sum_by f (option_to_list d)) n in
+          let p = ap (λ d. sum_by f (option_to_list d)) found.1 in
           let r = sum_by-cons f x [] in
           omega (arith, taken_sum f, q.bag f)
-
--- the bound of a cursor's minutes
-pub beyond-onward : (c : Cursor) → 0 < c.left → beyond (onward c) ≡ beyond c
-beyond-onward c h =
-    let e : c.left ≡ suc (c.left - 1) = omega arith in
-    let m = ap (λ n. n * c.interval) e in
-    omega (arith, suc-mul (c.left - 1) c.interval)
-
-pub next_fits : (c : Cursor) → 0 < c.left → c.minute + c.interval ≤ beyond c
-next_fits c h =
-    let e : c.left ≡ suc (c.left - 1) = omega arith in
-    let m = ap (λ n. n * c.interval) e in
-    omega (arith, suc-mul (c.left - 1) c.interval)
-
-pub beyond-set : (cs : List Cursor) (i : ℕ) (c : Cursor) → i < length cs → beyond c < 4294967296
-    → ((k : ℕ) → beyond (get_or cs k no_cursor) < 4294967296) → (k : ℕ) → beyond (get_or (set cs i c) k no_cursor) < 4294967296
-beyond-set cs i c h b all k =
-    ⊎_elim (λ e. let s = ap beyond (ap (λ n. get_or (set cs i c) n no_cursor) e ∙ get_or-set_same cs i c no_cursor h) in omega arith)
-    (λ ne. let s = ap beyond (get_or-set_other cs i k c no_cursor ne) in omega (arith, all k)) (cases_eq k i)
-
-pub cursor_at : (ls : List Line) (k : ℕ) → get_or (map cursor_of ls) k no_cursor ≡ cursor_of (get_or ls k no_line)
-cursor_at ls k =
-    ⊎_elim (get_or-map cursor_of ls k no_line no_cursor)
-    (λ h. get_or_past (map cursor_of ls) k no_cursor (omega (arith, length-map ls cursor_of)) ∙ ap cursor_of (sym (get_or_past ls k no_line h)))
-    (cases_lt k (length ls))

@@ -1,5 +1,5 @@
 -- What is gathered from a list, position after position, by its sums.
-use Rattle.std.proofs.Common.{◌≡◌, ℕ, zero, suc, ◌+◌, ◌<◌, ◌≤◌, List, [], ◌∷◌, ◌++◌, map, length, get_or, set, sum_by, refl, ap, ◌∙◌, arith}
+use Rattle.std.proofs.Common.{◌≡◌, ℕ, zero, suc, ◌+◌, ◌<◌, List, [], ◌∷◌, ◌++◌, map, length, get_or, set, sum_by, refl, ap, ◌∙◌, arith}
 use Rattle.std.proofs.lemmas.List.Sums.{sum_by-append}
 use Rattle.lines.specs.declared.departure.Departure.{Departure}
 use Rattle.lines.specs.Departures.{gather}
@@ -26,12 +26,6 @@ module _ {X : Type 0} (g : ℕ → X → List Departure) where
     gather_push [] i j x e =
         let same : i ≡ j = omega arith in omega (arith, gather_cons i x [], ap (λ n. sum_by f (g n x)) same)
     gather_push (y ∷ ys) i j x e = omega (arith, gather_cons i y (ys ++ x ∷ []), gather_cons i y ys, gather_push ys (i + 1) j x (omega arith))
-
-    pub gather_at : (xs : List X) (i k j : ℕ) (d : X) → i + k ≡ j → k < length xs → sum_by f (g j (get_or xs k d)) ≤ sum_by f (gather g i xs)
-    gather_at [] i k j d e h = absurd (omega arith)
-    gather_at (y ∷ ys) i zero j d e h =
-        let same : i ≡ j = omega arith in omega (arith, gather_cons i y ys, ap (λ n. sum_by f (g n y)) same)
-    gather_at (y ∷ ys) i (suc k) j d e h = omega (arith, gather_cons i y ys, gather_at ys (i + 1) k j d (omega arith) (omega arith))
 
     -- where g gives nothing that f counts, h does not
     module _ (h : ℕ → X → List Departure) where

@@ -9,8 +9,8 @@ use Rattle.std.specs.List.Sorted.{IsPermutation}
 use Rattle.queue.specs.Order.{Rising}
 use Rattle.lines.specs.declared.departure.Departure.{Departure}
 use Rattle.lines.specs.declared.line.Line.{Line}
-use Rattle.lines.specs.Departures.{OnlyOne, Timetable, before, departures, insert, ride_on, runs, sorted}
-use Rattle.lines.specs.Merges.{Drew, no_departure}
+use Rattle.lines.specs.Departures.{OnlyOne, Timetable, before, departing, departures, insert, ride_on, runs, sorted}
+use Rattle.lines.specs.Merges.{Drew}
 use Rattle.lines.proofs.Drawing.{bit_zero, departure_eq, none_sooner, sooner}
 
 asymmetric : (x y : Departure) → before x y ≡ true → before y x ≡ false
@@ -78,6 +78,10 @@ only_one ls es es' t u =
 
 pub timetable : (ls : List Line) → Timetable ls (map (ride_on ls) (departures ls))
 timetable ls = record { order = departures ls; bag = sorted_shuffled (runs ls); rising = sorted_rising (runs ls); rides = refl }
+
+-- what stands behind the end of a list of departures
+abbrev pub no_departure : Departure
+no_departure = departing 0 0
 
 rising_drop : (p : ℕ) (ds : List Departure) → Rising before ds → Rising before (drop p ds)
 rising_drop zero ds h = h

@@ -18,8 +18,8 @@ use Rattle.lines.specs.declared.departure.Departure.{Departure}
 use Rattle.lines.specs.declared.line.Line.{Line}
 use Rattle.lines.specs.Departures.{before, departures, events_on, gather, ride_at, ride_on, run, run_from, runs, sorted}
 use Rattle.lines.specs.Lines.{last_arrival, no_line, rides_of, table}
-use Rattle.lines.specs.Merges.{Drew, beyond, cursor_of, no_departure}
-use Rattle.lines.proofs.Orders.{drawn_first, more_behind, none_behind, sorted_rising, sorted_shuffled}
+use Rattle.lines.specs.Merges.{Drew, beyond, cursor_of}
+use Rattle.lines.proofs.Orders.{drawn_first, more_behind, no_departure, none_behind, sorted_rising, sorted_shuffled}
 
 -- reading
 module _ (ls : List Line) (p : ℕ) (left left' : List Departure) (bag : (f : Departure → ℕ) → sum_by f left ≡ sum_by f (drop p (departures ls))) where
@@ -77,7 +77,7 @@ length-table ls h = length-append ls (replicate (32 - length ls) no_line) ∙ om
 pub table_at : (ls : List Line) (k : ℕ) → get_or (table ls) k no_line ≡ get_or ls k no_line
 table_at ls k = get_or-padded ls (32 - length ls) k
 
--- how many events there are
+-- there is an event for each ride
 length_run_from : (m v i n : ℕ) → length (run_from m v i n) ≡ n
 length_run_from m v i zero = refl
 length_run_from m v i (suc n) = ap suc (length_run_from (m + v) v i n)

@@ -4,10 +4,9 @@
 --     left_of i c             the departures that are left of it
 --     onward c                the cursor one departure further
 --     beyond c                the minute that a cursor has behind its last departure
---     no_cursor, no_departure  what stands in a table before it is filled
+--     no_cursor               what stands behind the end of a table of cursors
 --     heads cs, lefts cs      the next departures of all lines, and the departures left of all
 --     Queued s u next s' u'   a queue of slots s and count u came to s' and u' by a departure that may be none
---     Filled cs s u           a queue that holds the next departures of all lines
 --     Drew ds x ds'           of the departures ds that were left x goes first, and ds' are left
 --     Drawn ds answer ds'     the same by the answer, none where none was left
 -- Two lists with equal sums, whatever is summed, are rearrangements of each other.
@@ -23,9 +22,6 @@ use Rattle.lines.specs.Departures.{before, departing, gather, run_from}
 
 abbrev pub no_cursor : Cursor
 no_cursor = record { minute = 0; interval = 0; left = 0 }
-
-abbrev pub no_departure : Departure
-no_departure = departing 0 0
 
 abbrev pub cursor_of : Line → Cursor
 cursor_of l = record { minute = l.first; interval = l.interval; left = l.rides }
@@ -53,12 +49,6 @@ pub record Queued (slots : List Departure) (used : ℕ) (next : Option Departure
   pub heaped : Heaped before (held slots used) → Heaped before (held slots' used')
   pub long : length slots' ≡ length slots
   pub count : used' ≤ used + 1
-
-pub record Filled (cs : List Cursor) (slots : List Departure) (used : ℕ) : Type 0 where
-  pub bag : (f : Departure → ℕ) → sum_by f (held slots used) ≡ sum_by f (heads cs)
-  pub heaped : Heaped before (held slots used)
-  pub long : length slots ≡ 32
-  pub count : used ≤ length cs
 
 pub record Drew (ds : List Departure) (x : Departure) (ds' : List Departure) : Type 0 where
   pub bag : (f : Departure → ℕ) → sum_by f ds ≡ f x + sum_by f ds'

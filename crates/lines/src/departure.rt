@@ -5,7 +5,7 @@ ghost use Rattle.std.proofs.Common.{rules};
 use queue::Precedence;
 
 // A minute in which a ride of a line departs; the line is told by its position.
-#[derive(Clone, Copy, PartialEq, Eq, Debug)]
+#[derive(Clone, Copy, PartialEq, Eq, PartialOrd, Ord, Debug, Default)]
 pub struct Departure {
     pub minute: u32,
     pub line: usize,
@@ -19,6 +19,6 @@ impl Precedence for Departure {
     ghost cotransitive = { Prim.search rules };
 
     fn precedes(&self, other: &Departure) -> bool {
-        self.minute < other.minute || (self.minute == other.minute && self.line < other.line)
+        self < other
     }
 }

@@ -5,6 +5,7 @@ mod cursor;
 mod departure;
 mod line;
 mod line_source;
+mod line_table;
 mod merge;
 
 pub use line_source::LineSource;

@@ -1,11 +1,17 @@
-// Measures whose label is the begin.
+// Measures whose label is the begin; they differ in how it is settled.
+ghost use Rattle.std.specs.Prelude.{◌≡◌, pos, ◌-ℤ◌};
 ghost use Rattle.measures.specs.Six.{earliest, latest};
 ghost use Rattle.std.proofs.Common.{rules};
 
 use crate::measure::Measure;
+use records::LAST_MINUTE;
 
-// The last minute that a timetable has.
-const LAST_MINUTE: i64 = 999_999;
+// The minutes from a minute to the last one that a timetable has.
+fn before_the_last(minute: u32) -> i64
+    ensures { result ≡ pos 999999 -ℤ pos minute }
+{
+    i64::from(LAST_MINUTE) - i64::from(minute)
+}
 
 // Letter e: the end, then the later begin.
 pub struct EarliestArrival;
@@ -30,7 +36,7 @@ impl Measure for EarliestArrival {
     }
 
     fn settle(label: u32, end: u32) -> (i64, i64) {
-        (i64::from(end), LAST_MINUTE - i64::from(label))
+        (i64::from(end), before_the_last(label))
     }
 }
 
@@ -57,6 +63,6 @@ impl Measure for LatestDeparture {
     }
 
     fn settle(label: u32, end: u32) -> (i64, i64) {
-        (LAST_MINUTE - i64::from(label), i64::from(end))
+        (before_the_last(label), i64::from(end))
     }
 }

@@ -1,4 +1,4 @@
-// Measures whose label grows by the minutes ridden.
+// Measures whose label grows by the minutes ridden; they differ in where it begins, how it compares and how it is settled.
 ghost use Rattle.measures.specs.Six.{least_riding, least_waiting};
 ghost use Rattle.std.proofs.Common.{rules};
 

@@ -3,9 +3,10 @@ ghost use Rattle.measures.specs.Six.{fastest};
 ghost use Rattle.std.proofs.Common.{rules};
 
 use crate::measure::Measure;
+use std::cmp::Reverse;
 
 // When a journey began, and the minutes ridden so far.
-#[derive(Clone, Copy)]
+#[derive(Clone, Copy, PartialEq, Eq, Debug, Default)]
 pub struct Trip {
     pub begin: u32,
     pub riding: u32,
@@ -36,7 +37,7 @@ impl Measure for Fastest {
     }
 
     fn no_worse(first: Trip, second: Trip) -> bool {
-        first.begin > second.begin || (first.begin == second.begin && first.riding <= second.riding)
+        (Reverse(first.begin), first.riding) <= (Reverse(second.begin), second.riding)
     }
 
     fn settle(label: Trip, end: u32) -> (i64, i64) {

@@ -1,4 +1,5 @@
-// Measures: how a journey is scored, and how labels of unfinished journeys compare.
+// Measures: how a journey is scored, and how labels of unfinished journeys compare. Each of the six says its own four functions:
+// a text for two of them would need a trait for what differs, as long as what it saves.
 #![tactic(auto)]
 
 mod by_begin;

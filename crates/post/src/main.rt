@@ -1,16 +1,15 @@
 // The program of a post: opens `day.tt` as records, and answers each line of standard input with one line.
 #![tactic(auto)]
 
-mod tables;
-
 use anyhow::anyhow;
-use dialogue::answer;
+use dialogue::{PostTables, answer};
 use faults::Fault;
+use heap_tables::{HeapTables, Lengths, Slots};
+use records::MOST_EVENTS;
 use replies::{LONGEST_LINE, Reply, write};
 use sources::RecordSource;
 use std::fs::File;
 use std::io::{BufRead, BufReader, Read, Write};
-use tables::Tables;
 use timetable_post::Post;
 
 // The file of the day's events.
@@ -26,7 +25,11 @@ fn read_day(rt: &HostRuntime) -> anyhow::Result<Vec<u8>> {
 }
 
 // Prints a reply at once.
-fn print_reply(out: &mut impl Write, reply: Reply, steps: &[usize]) -> anyhow::Result<()> {
+fn print_reply(
+    out: &mut impl Write,
+    reply: Result<Reply, Fault>,
+    steps: &[usize],
+) -> anyhow::Result<()> {
     let mut line = [0; LONGEST_LINE];
     let Some(length) = write(reply, steps, &mut line) else {
         return Err(anyhow!("a reply is longer than a line"));
@@ -38,32 +41,34 @@ fn print_reply(out: &mut impl Write, reply: Reply, steps: &[usize]) -> anyhow::R
 
 // Answers the lines of standard input, one after another.
 fn converse(rt: &HostRuntime, source: RecordSource) -> anyhow::Result<()> {
+    let lengths = Lengths::for_events(MOST_EVENTS);
+    let mut numbers = HeapTables::new(rt.alloc(), lengths, Slots::default())?;
+    let log_and_board = Lengths {
+        queue: 0,
+        steps: 0,
+        ..lengths
+    };
+    let mut trips = HeapTables::new(rt.alloc(), log_and_board, Slots::default())?;
+    let mut tables = PostTables {
+        log: &mut numbers.log,
+        board: &mut numbers.board,
+        trip_log: &mut trips.log,
+        trip_board: &mut trips.board,
+        queue: &mut numbers.queue,
+        steps: &mut numbers.steps,
+    };
     let mut post = Post::put_up(source);
-    let mut tables = Tables::new(rt.alloc())?;
     let mut out = rt.stdout();
     for line in BufReader::new(rt.alloc(), rt.stdin())?.split(rt.alloc(), b'\n') {
-        let reply = answer(
-            &mut post,
-            &line?,
-            &mut tables.log,
-            &mut tables.board,
-            &mut tables.trip_log,
-            &mut tables.trip_board,
-            &mut tables.queue,
-            &mut tables.steps,
-        );
-        print_reply(&mut out, reply, &tables.steps)?;
+        let reply = answer(&mut post, &line?, &mut tables);
+        print_reply(&mut out, reply, tables.steps)?;
     }
     Ok(())
-}
-
-fn refuse(rt: &HostRuntime, fault: Fault) -> anyhow::Result<()> {
-    print_reply(&mut rt.stdout(), Reply::Refused(fault), &[])
 }
 
 fn main(rt: HostRuntime) -> anyhow::Result<()> {
     match RecordSource::open(&read_day(&rt)?) {
         Ok(source) => converse(&rt, source),
-        Err(fault) => refuse(&rt, fault),
+        Err(fault) => print_reply(&mut rt.stdout(), Err(fault), &[]),
     }
 }

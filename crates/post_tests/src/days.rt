@@ -5,6 +5,7 @@ use lines::LineSource;
 use records::write;
 use sources::{RecordSource, Source};
 use std::alloc::Global;
+use std::iter;
 use std::test::Fail;
 use worked_scores::worked_events;
 
@@ -30,11 +31,6 @@ pub fn worked_day() -> Result<RecordSource, Fault> {
 // The place of a source, told by how many events are left to be read.
 pub fn place_of<S: Source>(source: &mut S) -> usize {
     let size = source.size();
-    let mut place = size;
-    for _ in 0..size {
-        if source.next().is_some() {
-            place = place.saturating_sub(1);
-        }
-    }
-    place
+    let left = iter::from_fn(|| source.next()).take(size).count();
+    size.saturating_sub(left)
 }

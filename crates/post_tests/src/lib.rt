@@ -8,6 +8,4 @@ mod days;
 #[cfg(test)]
 mod rubbish;
 #[cfg(test)]
-mod tables;
-#[cfg(test)]
 mod tests;

@@ -1,11 +1,13 @@
 // The tests, each with tables of calls and of what is owed to them.
 use crate::asking::Letter::{E, L};
-use crate::asking::{Journey, Letter, Refusal, ask, from_to, refused_with};
+use crate::asking::{Letter, ask, from_to};
 use crate::days::{place_of, two_lines, worked_day};
-use crate::rubbish::is_spoilt_behind;
-use crate::tables::Tables;
-use faults::Fault;
+use crate::rubbish::{are_spoilt, rubbish};
+use faults::{Fault, Report};
+use heap_tables::{HeapTables, Lengths, NONSENSE, is_nonsense_behind};
+use journeys::Verdict;
 use lines::LineSource;
+use search::Answer;
 use sources::{RecordSource, Source};
 use std::alloc::Global;
 use std::process::Abort;
@@ -13,9 +15,9 @@ use std::test::Fail;
 use timetable_post::Post;
 
 // A measure, the stop to reach, what is told of the best journey from stop 1 within 100 to 200, and the journey.
-type Row<'a> = (Letter, u8, Journey, &'a [usize]);
+type Row<'a> = (Letter, u8, Answer, &'a [usize]);
 
-// What is told of a journey without a call, whose steps are rides.
+// What is told of a journey without a call, whose steps are rides: six numbers of a row.
 fn told(
     begin: u32,
     end: u32,
@@ -23,27 +25,46 @@ fn told(
     rides: usize,
     score: (i64, i64),
     reads: usize,
-) -> Journey {
-    Journey {
-        begin,
-        end,
-        riding,
-        rides,
-        score,
+) -> Answer {
+    Answer {
+        verdict: Verdict {
+            begin,
+            end,
+            riding,
+            rides,
+            score,
+        },
         steps: rides,
         reads,
     }
 }
 
-// Checks that the step table names a journey, and is as it was behind it.
-fn check_named(rt: &impl Abort, tables: &Tables, journey: &[usize]) {
-    assert_eq!(rt; tables.steps.get(0..journey.len()), Some(journey));
-    assert!(rt; is_spoilt_behind(&tables.steps, journey.len()));
+// Tables of these lengths, log, board, queue and step table, with rubbish in each slot.
+fn spoilt(heap: Global, lengths: [usize; 4]) -> Result<HeapTables<u32>, Fail> {
+    let [log, board, queue, steps] = lengths;
+    let lengths = Lengths {
+        log,
+        board,
+        queue,
+        steps,
+    };
+    Ok(HeapTables::new(heap, lengths, rubbish())?)
 }
 
-fn check_rows(rt: &impl Abort, post: &mut Post<LineSource>, tables: &mut Tables, rows: &[Row]) {
+// Checks that the step table names a journey, and is as it was behind it.
+fn check_named(rt: &impl Abort, tables: &HeapTables<u32>, journey: &[usize]) {
+    assert_eq!(rt; tables.steps.get(0..journey.len()), Some(journey));
+    assert!(rt; is_nonsense_behind(&tables.steps, journey.len()));
+}
+
+fn check_rows(
+    rt: &impl Abort,
+    post: &mut Post<LineSource>,
+    tables: &mut HeapTables<u32>,
+    rows: &[Row],
+) {
     for (letter, to, told, journey) in rows {
-        tables.spoil_steps();
+        tables.steps.fill(NONSENSE);
         let answer = ask(post, *letter, from_to(1, *to, 100, 200), tables);
         assert_eq!(rt; answer, Ok(*told));
         check_named(rt, tables, journey);
@@ -64,7 +85,7 @@ fn lines_through_notices(rt: HostRuntime) -> Result<(), Fail> {
         (E, 2, told(100, 120, 20, 1, (120, 999_899), 5), &[0]),
         (L, 2, told(130, 150, 20, 1, (999_869, 150), 5), &[3]),
     ];
-    let mut tables = Tables::new(rt.alloc(), [10, 512, 10, 5])?;
+    let mut tables = spoilt(rt.alloc(), [10, 512, 10, 5])?;
     let mut post = Post::put_up(two_lines(rt.alloc())?);
     check_rows(&rt, &mut post, &mut tables, &all_in_force);
     post.withdraw(1)?;
@@ -80,29 +101,21 @@ fn lines_through_notices(rt: HostRuntime) -> Result<(), Fail> {
     Ok(())
 }
 
-// What a notice meets; zeros where it is accepted.
-fn met(answer: Result<(), Fault>) -> Refusal {
-    match answer {
-        Ok(()) => (0, 0, 0),
-        Err(fault) => refused_with(fault),
-    }
-}
-
 #[test]
 fn notices_on_records(rt: HostRuntime) -> Result<(), Fail> {
     // Whether it is a withdrawal, its event, what it meets, and the tally after it.
     let table = [
-        (false, 6, (13, 5, 6), 0),
-        (true, 6, (0, 0, 0), 1),
-        (true, 6, (13, 5, 6), 1),
-        (true, 0, (0, 0, 0), 2),
-        (true, 7, (12, 5, 7), 2),
+        (false, 6, Err(Report::new(13, 5, 6)), 0),
+        (true, 6, Ok(()), 1),
+        (true, 6, Err(Report::new(13, 5, 6)), 1),
+        (true, 0, Ok(()), 2),
+        (true, 7, Err(Report::new(12, 5, 7)), 2),
         // Where there is no such event, a reinstatement would meet 13 too.
-        (false, 7, (12, 5, 7), 2),
-        (false, 1_024, (12, 5, 1_024), 2),
-        (false, 6, (0, 0, 0), 1),
-        (false, 6, (13, 5, 6), 1),
-        (false, 0, (0, 0, 0), 0),
+        (false, 7, Err(Report::new(12, 5, 7)), 2),
+        (false, 1_024, Err(Report::new(12, 5, 1_024)), 2),
+        (false, 6, Ok(()), 1),
+        (false, 6, Err(Report::new(13, 5, 6)), 1),
+        (false, 0, Ok(()), 0),
     ];
     let mut post = Post::put_up(worked_day()?);
     for (withdraws, event, meets, tally) in table {
@@ -111,7 +124,7 @@ fn notices_on_records(rt: HostRuntime) -> Result<(), Fail> {
         } else {
             post.reinstate(event)
         };
-        assert_eq!(rt; met(answer), meets);
+        assert_eq!(rt; answer.map_err(Report::from), meets);
         assert_eq!(rt; post.tally(), tally);
     }
     Ok(())
@@ -137,9 +150,12 @@ fn refused_queries(rt: HostRuntime) -> Result<(), Fail> {
     let mut post = Post::put_up(source);
     post.withdraw(0)?;
     for (query, lengths, number) in table {
-        let mut tables = Tables::new(rt.alloc(), lengths)?;
-        assert_eq!(rt; ask(&mut post, E, query, &mut tables), Err((number, 6, 0)));
-        assert!(rt; tables.are_spoilt());
+        let mut tables = spoilt(rt.alloc(), lengths)?;
+        assert_eq!(rt;
+            ask(&mut post, E, query, &mut tables),
+            Err(Report::new(number, 6, 0))
+        );
+        assert!(rt; are_spoilt(&tables));
     }
     assert_eq!(rt; post.tally(), 1);
     assert_eq!(rt; place_of(&mut post.take_down()), 1);
@@ -147,25 +163,25 @@ fn refused_queries(rt: HostRuntime) -> Result<(), Fail> {
 }
 
 // How many events were read for a journey.
-fn reads_of(answer: Result<Journey, Refusal>) -> Result<usize, Refusal> {
+fn reads_of(answer: Result<Answer, Report>) -> Result<usize, Report> {
     Ok(answer?.reads)
 }
 
-fn check_windows(rt: &impl Abort, post: &mut Post<RecordSource>, tables: &mut Tables) {
+fn check_windows(rt: &impl Abort, post: &mut Post<RecordSource>, tables: &mut HeapTables<u32>) {
     // The stop to reach, open and close, the reads, and the journey from stop 1.
-    let table: [(u8, u32, u32, Result<usize, Refusal>, &[usize]); 9] = [
+    let table: [(u8, u32, u32, Result<usize, Report>, &[usize]); 9] = [
         (3, 110, 155, Ok(7), &[2, 4]),
-        (3, 111, 155, Err((18, 6, 0)), &[]),
-        (3, 110, 154, Err((18, 6, 0)), &[]),
+        (3, 111, 155, Err(Report::new(18, 6, 0)), &[]),
+        (3, 110, 154, Err(Report::new(18, 6, 0)), &[]),
         (2, 100, 124, Ok(4), &[0]),
         (2, 101, 125, Ok(6), &[2]),
         (2, 101, 147, Ok(6), &[2]),
         (2, 101, 148, Ok(7), &[2]),
         (3, 100, 170, Ok(7), &[2, 4]),
-        (3, 100, 104, Err((18, 6, 0)), &[]),
+        (3, 100, 104, Err(Report::new(18, 6, 0)), &[]),
     ];
     for (to, open, close, reads, journey) in table {
-        tables.spoil_steps();
+        tables.steps.fill(NONSENSE);
         let answer = ask(post, E, from_to(1, to, open, close), tables);
         assert_eq!(rt; reads_of(answer), reads);
         check_named(rt, tables, journey);
@@ -175,7 +191,7 @@ fn check_windows(rt: &impl Abort, post: &mut Post<RecordSource>, tables: &mut Ta
 // The events that are withdrawn are those at which reading ends.
 #[test]
 fn windows_and_reads(rt: HostRuntime) -> Result<(), Fail> {
-    let mut tables = Tables::new(rt.alloc(), [14, 512, 14, 7])?;
+    let mut tables = spoilt(rt.alloc(), [14, 512, 14, 7])?;
     let mut post = Post::put_up(worked_day()?);
     check_windows(&rt, &mut post, &mut tables);
     for event in [1, 3, 5, 6] {
@@ -192,12 +208,15 @@ fn check_nothing_fits<S: Source + Drop>(
     heap: Global,
     source: S,
 ) -> Result<(), Fail> {
-    let mut tables = Tables::new(heap, [0, 512, 0, 0])?;
+    let mut tables = spoilt(heap, [0, 512, 0, 0])?;
     let mut post = Post::put_up(source);
-    assert_eq!(rt; met(post.withdraw(0)), (12, 5, 0));
+    assert_eq!(rt;
+        post.withdraw(0).map_err(Report::from),
+        Err(Report::new(12, 5, 0))
+    );
     assert_eq!(rt; post.tally(), 0);
     let answer = ask(&mut post, E, from_to(1, 3, 0, 999_999), &mut tables);
-    assert_eq!(rt; answer, Err((18, 6, 0)));
+    assert_eq!(rt; answer, Err(Report::new(18, 6, 0)));
     assert_eq!(rt; place_of(&mut post.take_down()), 0);
     Ok(())
 }

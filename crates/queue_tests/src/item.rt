@@ -5,7 +5,7 @@ ghost use Rattle.std.proofs.Common.{rules};
 use crate::random::Random;
 use queue::Precedence;
 
-#[derive(Clone, Copy, PartialEq, Eq, PartialOrd, Ord, Debug)]
+#[derive(Clone, Copy, PartialEq, Eq, PartialOrd, Ord, Debug, Default)]
 pub struct Item {
     pub minute: u32,
     pub number: u16,
@@ -29,6 +29,6 @@ impl Precedence for Item {
     ghost cotransitive = { Prim.search rules };
 
     fn precedes(&self, other: &Item) -> bool {
-        self.minute < other.minute || (self.minute == other.minute && self.number < other.number)
+        self < other
     }
 }

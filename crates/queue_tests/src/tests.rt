@@ -8,17 +8,12 @@ use std::cell::Cell;
 use std::process::Abort;
 use std::test::Fail;
 
-const BLANK: Item = Item {
-    minute: 0,
-    number: 0,
-};
-
 // Every number of slots up to a heap of six levels.
 #[test]
 fn answers_as_a_sorted_list(rt: HostRuntime) -> Result<(), Fail> {
     let mut random = Random::new(7);
     for length in 0..48 {
-        let mut slots = vec![in rt.alloc(); BLANK; length]?;
+        let mut slots = vec![in rt.alloc(); Item::default(); length]?;
         agrees(&rt, rt.alloc(), &mut slots, &mut random)?;
     }
     Ok(())
@@ -52,6 +47,7 @@ fn agrees(
     Ok(())
 }
 
+// The queue and the list that it is held against stand beside each other, as they are compared.
 fn agrees_on_put(
     rt: &impl Abort,
     slots: &mut [Item],
@@ -99,7 +95,7 @@ fn counts_no_further_than_the_slots(rt: HostRuntime) {
     let mut slots = [first, second];
     let mut used = 9;
     assert_eq!(rt;
-        put(&mut slots, &mut used, BLANK),
+        put(&mut slots, &mut used, Item::default()),
         Err(Fault::WorkTableTooShort)
     );
     assert_eq!(rt; used, 9);
@@ -109,7 +105,7 @@ fn counts_no_further_than_the_slots(rt: HostRuntime) {
     assert_eq!(rt; take(&mut slots[0..0], &mut used), None);
     assert_eq!(rt; used, 1);
     assert_eq!(rt;
-        put(&mut slots[0..0], &mut used, BLANK),
+        put(&mut slots[0..0], &mut used, Item::default()),
         Err(Fault::WorkTableTooShort)
     );
     assert_eq!(rt; take(&mut slots, &mut used), Some(second));

@@ -1,44 +1,12 @@
 -- Writing and reading undo each other.
-use Rattle.std.proofs.Common.{◌≡◌, ℕ, ◌+◌, ◌*◌, ◌/◌, ◌%◌, ◌^◌, ◌<◌, ◌≤◌, true, not, ◌&&◌, ◌||◌, eqb, leb, List, [], ◌∷◌, ◌++◌, map, length, get_or, replicate, Ok, sym, refl, ap, subst, ⊎_elim, arith}
-use native.Mathlib.Nat.{div-div-eq-div-mul}
+use Rattle.std.proofs.Common.{◌≡◌, ℕ, ◌+◌, ◌*◌, ◌/◌, ◌%◌, ◌<◌, true, ◌||◌, eqb, List, [], ◌∷◌, ◌++◌, map, length, get_or, replicate, sym, refl, ap, ◌∙◌, subst, ⊎_elim, arith}
+use Rattle.std.proofs.lemmas.List.Folds.{list_all-append}
 use Rattle.std.proofs.lemmas.List.FromFn.{fill_by_all}
-use Rattle.std.proofs.lemmas.Bool.{and_parts, cases_Bool, eqb-true, leb-true}
+use Rattle.std.proofs.lemmas.Bool.{and_parts, cases_Bool, eqb-true}
 use Rattle.std.specs.List.{range_with_len}
 use Rattle.faults.proofs.Rules.{kept_parts}
 use Rattle.faults.specs.Rules.{Kept}
-use Rattle.records.specs.declared.event.Event.{Event}
-use Rattle.records.specs.declared.event.Event.TheVariants.{Opening, Ride}
-use Rattle.records.specs.Events.{limits}
-use Rattle.records.specs.Layout.{is_opening, is_ride, bytes4, bytes2, word, half, zeros, spare, layout, event_in, reading, record_rules}
-
--- a number by its last digit and the rest, four times over, in base 256
-base256 : (n q r t a b c d : ℕ) → n ≡ q * 256 + d → q ≡ r * 256 + c → r ≡ t * 256 + b → a ≡ t → a * 16777216 + b * 65536 + c * 256 + d ≡ n
-base256 n q r t a b c d h₀ h₁ h₂ h₃ = omega arith
-
-word-bytes4 : (n : ℕ) → n < 2 ^ 32 → word (bytes4 n) 0 ≡ n
-word-bytes4 n h =
-    let x = div-div-eq-div-mul n 256 256 in
-    let y = div-div-eq-div-mul n 65536 256 in
-    base256 n (n / 256) (n / 65536) (n / 16777216) _ _ _ _ (omega arith) (omega arith) (omega arith) (omega arith)
-
-half-bytes2 : (n : ℕ) → n < 2 ^ 16 → half (bytes2 n) 0 ≡ n
-half-bytes2 n h = omega arith
-
--- what is written reads as the event
-pub reading-layout : (p : ℕ) (e : Event) → Kept (limits 0 e) → reading p (layout e) ≡ Ok e
-reading-layout p (Opening s m) h =
-    let l : leb m 999999 ≡ true = (kept_parts (leb m 999999) _ _ h).0 in
-    let w = word-bytes4 m (omega (arith, leb-true m 999999 l)) in
-    rw (w, l)
-reading-layout p (Ride a b t d) h =
-    let k = kept_parts (not (eqb a b)) _ _ h in
-    let j = kept_parts (leb 1 d && leb d 1440) _ _ k.1 in
-    let l : leb (t + d) 999999 ≡ true = (kept_parts (leb (t + d) 999999) _ _ j.1).0 in
-    let u : t + d ≤ 999999 = leb-true (t + d) 999999 l in
-    let m : d ≤ 1440 = leb-true d 1440 (and_parts (leb 1 d) (leb d 1440) j.0).1 in
-    let w = word-bytes4 t (omega arith) in
-    let v = half-bytes2 d (omega arith) in
-    rw (w, v, k.0, j.0, l)
+use Rattle.records.specs.Layout.{is_opening, is_ride, bytes4, bytes2, zeros, spare, layout, event_in, record_rules}
 
 bytes4-word : (a b c d : ℕ) → a < 256 → b < 256 → c < 256 → d < 256 → bytes4 (a * 16777216 + b * 65536 + c * 256 + d) ≡ a ∷ b ∷ c ∷ d ∷ []
 bytes4-word a b c d ha hb hc hd =
@@ -64,13 +32,8 @@ zeros_true (b ∷ bs) h =
     cc
 
 zeros_parts : (xs ys : List ℕ) → zeros (xs ++ ys) ≡ true → (xs ≡ replicate (length xs) 0) × (ys ≡ replicate (length ys) 0)
-zeros_parts [] ys h = (refl, zeros_true ys h)
-zeros_parts (x ∷ xs) ys h =
-    let k = and_parts (eqb x 0) (zeros (xs ++ ys)) h in
-    let e = eqb-true x 0 k.0 in
-    let r = zeros_parts xs ys k.1 in
-    let r₀ = r.0 in
-    (cc, r.1)
+zeros_parts xs ys h =
+    let k = and_parts (zeros xs) (zeros ys) (sym (list_all-append (λ b. eqb b 0) xs ys) ∙ h) in (zeros_true xs k.0, zeros_true ys k.1)
 
 same_parts : (a a' s : ℕ) (x x' y y' z z' : List ℕ) → a ≡ a' → x ≡ x' → y ≡ y' → z ≡ z' → a ∷ s ∷ (x ++ (y ++ z)) ≡ a' ∷ s ∷ (x' ++ (y' ++ z'))
 same_parts a a' s x x' y y' z z' h i j k = cc

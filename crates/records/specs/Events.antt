@@ -2,11 +2,13 @@
 --     time_of e        an opening's minute, a ride's departure
 --     limits p e       the rules that an event obeys, at place p: a ride's stops differ, it lasts 1 to
 --                      1,440 minutes, and its arrival, or an opening's minute, is at most 999,999
---     Within e         e breaks none of them, and its stops are stops
+--     Stops e          its stops are stops, of which there is one proof at most (Stops-prop)
+--     Within e         it breaks none of its limits, and its stops are stops
 --     in_order d e     e may stand right after d: times do not fall, and within a minute no opening
 --                      follows a ride
 --     Listed es        a timetable's list of events: at most 1,024, each within the limits, in order
 use Rattle.std.specs.Prelude.{◌≡◌, ℕ, ◌+◌, ◌<◌, ◌≤◌, Bool, true, not, ◌&&◌, List, [], ◌∷◌, length, ◌==◌, nat_le, nat_lt}
+use Rattle.std.specs.Coded.{×_prop, le_prop}
 use Rattle.std.specs.List.{AllByRecursion, AllAdjacentBelow}
 use Rattle.faults.specs.declared.Fault.TheVariants.{EqualStops, DurationOutOfRange, TimeOutOfRange}
 use Rattle.faults.specs.Rules.{Rule, Kept}
@@ -28,6 +30,10 @@ limits p (Ride from to departure duration) =
 abbrev pub Stops : Event → Type 0
 Stops (Opening stop minute) = stop < 256
 Stops (Ride from to departure duration) = (from < 256) × (to < 256)
+
+pub Stops-prop : (e : Event) → IsProp (Stops e)
+Stops-prop (Opening stop minute) = le_prop
+Stops-prop (Ride from to departure duration) = ×_prop le_prop le_prop
 
 abbrev pub Within : Event → Type 0
 Within e = Kept (limits 0 e) × Stops e

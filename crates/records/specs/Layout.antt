@@ -3,19 +3,23 @@
 --     half bs i        the number in the two bytes from i, highest first
 --     word bs i        the number in the four bytes from i, highest first
 --     event_in bs      the event that the fields of a record give
---     spare bs         the bytes that its kind does not use
+--     spare bs         the bytes that its kind does not use, a ride's where it is not an opening's
+--     zeros bs         every byte is 0
 --     record_rules p bs the rules that a record obeys, at place p: its kind is an opening's or a
 --                      ride's, its spare bytes are 0, its event is within the limits
 --     reading p bs     what reading a record at place p answers
 --     layout e         the sixteen bytes that record an event
 --     writing e        what writing an event answers
-use Rattle.std.specs.Prelude.{ℕ, ◌+◌, ◌*◌, ◌/◌, ◌%◌, Bool, true, cond, ◌&&◌, ◌||◌, List, [], ◌∷◌, ◌++◌, take, drop, replicate, Result, ◌==◌, slice_index}
+use Rattle.std.specs.Prelude.{ℕ, ◌+◌, ◌*◌, ◌/◌, ◌%◌, Bool, cond, ◌||◌, List, [], ◌∷◌, ◌++◌, replicate, Result, ◌==◌, slice_index}
+use Rattle.std.specs.List.{list_all}
 use Rattle.faults.specs.declared.Fault.{Fault}
 use Rattle.faults.specs.declared.Fault.TheVariants.{WrongKind, SpareByteSet}
 use Rattle.faults.specs.Rules.{Rule, judged}
 use Rattle.records.specs.declared.event.Event.{Event}
 use Rattle.records.specs.declared.event.Event.TheVariants.{Opening, Ride}
+use Rattle.records.specs.declared.kind.Kind.TheVariants.{Opening as OpeningKind, Ride as RideKind}
 use Rattle.records.specs.Events.{limits}
+use Rattle.records.specs.Kinds.{spare_of}
 
 abbrev pub byte : List ℕ → ℕ → ℕ
 byte bs i = slice_index bs i
@@ -37,12 +41,10 @@ event_in bs =
     cond (is_opening bs) (Opening (byte bs 1) (word bs 4)) (Ride (byte bs 1) (byte bs 2) (word bs 4) (half bs 8))
 
 abbrev pub spare : List ℕ → List ℕ
-spare bs =
-    cond (is_opening bs) (take 2 (drop 2 bs) ++ take 8 (drop 8 bs)) (take 1 (drop 3 bs) ++ take 6 (drop 10 bs))
+spare bs = cond (is_opening bs) (spare_of OpeningKind bs) (spare_of RideKind bs)
 
 abbrev pub zeros : List ℕ → Bool
-zeros [] = true
-zeros (b ∷ bs) = b == 0 && zeros bs
+zeros bs = list_all (λ b. b == 0) bs
 
 abbrev pub record_rules : ℕ → List ℕ → List Rule
 record_rules p bs =

@@ -1,9 +1,11 @@
 // An event and its limits.
 ghost use Rattle.std.specs.Prelude.{◌≡◌};
 ghost use Rattle.faults.specs.Rules.{judged};
+ghost use Rattle.records.specs.declared.event.Event.TheVariants.{Ride};
 ghost use Rattle.records.specs.Events.{limits, time_of, in_order};
 
 use faults::Fault;
+use std::fmt;
 
 // A stop's number.
 pub type Stop = u8;
@@ -13,6 +15,9 @@ pub const LAST_MINUTE: u32 = 999_999;
 
 // The longest ride, in minutes.
 pub const LONGEST_RIDE: u16 = 1_440;
+
+// The most events that a timetable has.
+pub const MOST_EVENTS: usize = 1_024;
 
 // What a timetable holds: a minute in which a place at a stop can be used, or a ride from stop to stop.
 #[derive(Clone, Copy, PartialEq, Eq, Debug)]
@@ -29,7 +34,34 @@ pub enum Event {
     },
 }
 
+// In words.
+impl fmt::Display for Event {
+    fn fmt<W: fmt::Write>(&self, f: &mut fmt::Formatter<W>) -> fmt::Result {
+        match *self {
+            Event::Opening { stop, minute } => write!(f, "opening at {stop}, minute {minute}"),
+            Event::Ride {
+                from,
+                to,
+                departure,
+                duration,
+            } => write!(f, "{from}-{to} {departure}+{duration}"),
+        }
+    }
+}
+
 impl Event {
+    // A ride that lasts so many minutes, within the limits or not.
+    pub fn ride(from: Stop, to: Stop, departure: u32, minutes: u16) -> Event
+        ensures { result ≡ Ride from to departure minutes }
+    {
+        Event::Ride {
+            from,
+            to,
+            departure,
+            duration: minutes,
+        }
+    }
+
     // Refuses an event outside the limits, with the first broken one, at the place given.
     pub fn check(self, place: usize) -> Result<(), Fault>
         ensures { result ≡ judged (limits place self) tt }

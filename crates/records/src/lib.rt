@@ -2,7 +2,8 @@
 #![tactic(auto)]
 
 mod event;
+mod kind;
 mod record;
 
-pub use event::{Event, Stop};
+pub use event::{Event, LAST_MINUTE, LONGEST_RIDE, MOST_EVENTS, Stop};
 pub use record::{fields, read, write};

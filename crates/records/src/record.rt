@@ -1,13 +1,11 @@
 // Sixteen bytes to an event and back.
 ghost use Rattle.std.specs.Prelude.{◌≡◌, ℕ, IfOk, Ok};
-ghost use Rattle.records.specs.Layout.{event_in, layout, reading, spare, writing, zeros};
+ghost use Rattle.records.specs.Kinds.{spare_of};
+ghost use Rattle.records.specs.Layout.{event_in, layout, reading, writing, zeros};
 
 use crate::event::Event;
+use crate::kind::Kind;
 use faults::Fault;
-
-const OPENING: u8 = 1;
-
-const RIDE: u8 = 2;
 
 // The event that the fields of a record give, whatever its spare bytes; a kind that is not an opening's
 // is taken for a ride's.
@@ -15,17 +13,17 @@ pub fn fields(bytes: &[u8; 16]) -> Event
     ensures { result ≡ event_in bytes.now }
 {
     let time = u32::from_be_bytes([bytes[4], bytes[5], bytes[6], bytes[7]]);
-    if bytes[0] == OPENING {
-        return Event::Opening {
+    match Kind::try_from(bytes[0]) {
+        Ok(Kind::Opening) => Event::Opening {
             stop: bytes[1],
             minute: time,
-        };
-    }
-    Event::Ride {
-        from: bytes[1],
-        to: bytes[2],
-        departure: time,
-        duration: u16::from_be_bytes([bytes[8], bytes[9]]),
+        },
+        _ => Event::Ride {
+            from: bytes[1],
+            to: bytes[2],
+            departure: time,
+            duration: u16::from_be_bytes([bytes[8], bytes[9]]),
+        },
     }
 }
 
@@ -33,22 +31,16 @@ pub fn fields(bytes: &[u8; 16]) -> Event
 fn all_zero(bytes: &[u8]) -> bool
     ensures { result ≡ zeros bytes.now }
 {
-    for byte in bytes {
-        if *byte != 0 {
-            return false;
-        }
-    }
-    true
+    bytes.iter().all(|byte| *byte == 0)
 }
 
-// Whether the bytes that the record's kind does not use are all 0.
-fn spare_bytes_clear(bytes: &[u8; 16]) -> bool
-    ensures { result ≡ zeros (spare bytes.now) }
+// Whether the bytes that a record of the kind does not use are all 0.
+fn spare_bytes_clear(kind: Kind, bytes: &[u8; 16]) -> bool
+    ensures { result ≡ zeros (spare_of kind bytes.now) }
 {
-    if bytes[0] == OPENING {
-        all_zero(&bytes[2..4]) && all_zero(&bytes[8..16])
-    } else {
-        all_zero(&bytes[3..4]) && all_zero(&bytes[10..16])
+    match kind {
+        Kind::Opening => all_zero(&bytes[2..4]) && all_zero(&bytes[8..16]),
+        Kind::Ride => all_zero(&bytes[3..4]) && all_zero(&bytes[10..16]),
     }
 }
 
@@ -57,10 +49,8 @@ pub fn read(bytes: &[u8; 16], place: usize) -> Result<Event, Fault>
     ensures value { result ≡ reading place bytes.now }
     ensures only_record { IfOk result (λ e. layout e ≡ bytes.now) }
 {
-    if bytes[0] != OPENING && bytes[0] != RIDE {
-        return Err(Fault::WrongKind { place });
-    }
-    if !spare_bytes_clear(bytes) {
+    let kind = Kind::try_from(bytes[0]).map_err(|_| Fault::WrongKind { place })?;
+    if !spare_bytes_clear(kind, bytes) {
         return Err(Fault::SpareByteSet { place });
     }
     let event = fields(bytes);
@@ -69,27 +59,31 @@ pub fn read(bytes: &[u8; 16], place: usize) -> Result<Event, Fault>
 }
 
 // The sixteen bytes of an event, within its limits or not.
-fn bytes_of(event: Event) -> [u8; 16]
-    ensures { result ≡ layout event }
-{
-    match event {
-        Event::Opening { stop, minute } => {
-            let m = minute.to_be_bytes();
-            [
-                OPENING, stop, 0, 0, m[0], m[1], m[2], m[3], 0, 0, 0, 0, 0, 0, 0, 0,
-            ]
-        }
-        Event::Ride {
-            from,
-            to,
-            departure,
-            duration,
-        } => {
-            let t = departure.to_be_bytes();
-            let d = duration.to_be_bytes();
-            [
-                RIDE, from, to, 0, t[0], t[1], t[2], t[3], d[0], d[1], 0, 0, 0, 0, 0, 0,
-            ]
+impl From<Event> for [u8; 16] {
+    ghost from_gives = { λ event bytes. bytes ≡ layout event };
+
+    fn from(event: Event) -> [u8; 16] {
+        match event {
+            Event::Opening { stop, minute } => {
+                let kind = Kind::Opening as u8;
+                let m = minute.to_be_bytes();
+                [
+                    kind, stop, 0, 0, m[0], m[1], m[2], m[3], 0, 0, 0, 0, 0, 0, 0, 0,
+                ]
+            }
+            Event::Ride {
+                from,
+                to,
+                departure,
+                duration,
+            } => {
+                let kind = Kind::Ride as u8;
+                let t = departure.to_be_bytes();
+                let d = duration.to_be_bytes();
+                [
+                    kind, from, to, 0, t[0], t[1], t[2], t[3], d[0], d[1], 0, 0, 0, 0, 0, 0,
+                ]
+            }
         }
     }
 }
@@ -100,5 +94,5 @@ pub fn write(event: Event) -> Result<[u8; 16], Fault>
     ensures reads_back { IfOk result (λ bs. (p : ℕ) → reading p bs ≡ Ok event) }
 {
     event.check(0)?;
-    Ok(bytes_of(event))
+    Ok(event.into())
 }

@@ -1,1 +1,1 @@
-pub mod Placings
+pub mod Fits

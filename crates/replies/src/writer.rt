@@ -1,114 +1,33 @@
-// A reply as a line of bytes.
-ghost use Rattle.std.specs.Prelude.{◌≡◌, ◌≤◌, [], ◌∷◌, ◌++◌, length, codes, decimal};
-ghost use Rattle.faults.specs.Numbered.{reported};
-ghost use Rattle.search.specs.Searches.{named};
-ghost use Rattle.commands.specs.Grammar.{spaced};
-ghost use Rattle.replies.specs.Printed.{Placing, Wrote, newline, numbers, printed};
+// A reply, or why there is none, as a line of bytes.
+ghost use Rattle.std.specs.Prelude.{◌≡◌, [], ◌∷◌, ◌++◌, codes};
+ghost use Rattle.faults.specs.Numbered.{reported, told};
+ghost use Rattle.texts.specs.Pushing.{Pushed};
+ghost use Rattle.replies.specs.Printed.{Wrote, numbers, printed, printed_journey};
 
 use crate::reply::Reply;
+use arrayvec::{ArrayString, CapacityError};
 use faults::{Fault, Report};
 use journeys::Verdict;
 use search::Answer;
+use texts::{copy_out, push, push_number, push_spaced};
 
 // The most bytes of a line: a journey of 1,024 events has fewer.
 pub const LONGEST_LINE: usize = 8_192;
 
-// Writes a byte behind the first `at` of a line, and tells where it ends; none where there is no room.
-fn place_byte(line: &mut [u8], at: usize, byte: u8) -> Option<usize>
-    ensures { Placing line.old at (byte ∷ []) line.new result }
-{
-    if at >= line.len() {
-        return None;
-    }
-    line[at] = byte;
-    Some(at + 1)
-}
+// A line in which a reply is put together.
+type Line = ArrayString<LONGEST_LINE>;
 
-// Writes a number in decimal.
-fn place_number(line: &mut [u8], at: usize, number: usize) -> Option<usize>
-    ensures { Placing line.old at (decimal number) line.new result }
+// Puts each of the numbers with a space before it behind the text of a line.
+fn push_numbers(line: &mut Line, values: &[usize]) -> Result<(), CapacityError>
+    ensures { Pushed 8192 line.old.bytes (numbers values.now) result line.new.bytes }
 {
-    if number < 10 {
-        return place_byte(line, at, b'0' + number as u8);
-    }
-    let end = place_number(line, at, number / 10)?;
-    place_byte(line, end, b'0' + (number % 10) as u8)
-}
-
-// Writes a space and a number.
-fn place_spaced(line: &mut [u8], at: usize, number: usize) -> Option<usize>
-    ensures { Placing line.old at (spaced number) line.new result }
-{
-    let end = place_byte(line, at, b' ')?;
-    place_number(line, end, number)
-}
-
-// Writes each of the numbers with a space before it.
-fn place_numbers(line: &mut [u8], at: usize, values: &[usize]) -> Option<usize>
-    requires { at ≤ length line.old }
-    ensures { Placing line.old at (numbers values.now) line.new result }
-{
-    let mut end = at;
     for value in values {
-        end = place_spaced(line, end, *value)?;
+        push_spaced(line, *value)?;
     }
-    Some(end)
+    Ok(())
 }
 
-// Writes two bytes.
-fn place_pair(line: &mut [u8], at: usize, first: u8, second: u8) -> Option<usize>
-    ensures { Placing line.old at (first ∷ second ∷ []) line.new result }
-{
-    let end = place_byte(line, at, first)?;
-    place_byte(line, end, second)
-}
-
-// Writes two bytes and then each of the numbers with a space before it.
-fn place_words(line: &mut [u8], at: usize, first: u8, second: u8, values: &[usize]) -> Option<usize>
-    ensures { Placing line.old at (first ∷ second ∷ numbers values.now) line.new result }
-{
-    let end = place_pair(line, at, first, second)?;
-    place_numbers(line, end, values)
-}
-
-// Writes two bytes, the numbers and the end of a line.
-fn place_last_words(
-    line: &mut [u8],
-    at: usize,
-    first: u8,
-    second: u8,
-    values: &[usize],
-) -> Option<usize>
-    ensures { Placing line.old at (first ∷ second ∷ (numbers values.now ++ newline)) line.new result }
-{
-    let end = place_words(line, at, first, second, values)?;
-    place_byte(line, end, b'\n')
-}
-
-// Writes a number and the end of a line.
-fn place_count(line: &mut [u8], count: usize) -> Option<usize>
-    ensures { Placing line.old 0 (decimal count ++ newline) line.new result }
-{
-    let end = place_number(line, 0, count)?;
-    place_byte(line, end, b'\n')
-}
-
-// Writes a space, a colon, the steps of a journey and the end of a line.
-fn place_steps(line: &mut [u8], at: usize, steps: &[usize]) -> Option<usize>
-    ensures { Placing line.old at (codes " :" ++ (numbers steps.now ++ newline)) line.new result }
-{
-    place_last_words(line, at, b' ', b':', steps)
-}
-
-// Writes the line of a journey, from what is told of it and its steps.
-fn place_journey(line: &mut [u8], told: &[usize], steps: &[usize]) -> Option<usize>
-    ensures { Placing line.old 0 (codes "go" ++ (numbers told.now ++ (codes " :" ++ (numbers steps.now ++ newline)))) line.new result }
-{
-    let end = place_words(line, 0, b'g', b'o', told)?;
-    place_steps(line, end, steps)
-}
-
-// What is told of a journey.
+// What is told of a journey, as a line lists it; no `From`, since an array of numbers means nothing where the verdict is.
 fn told_of(verdict: Verdict) -> [usize; 4]
     ensures { result ≡ verdict.begin ∷ verdict.end ∷ verdict.riding ∷ verdict.rides ∷ [] }
 {
@@ -122,18 +41,17 @@ fn told_of(verdict: Verdict) -> [usize; 4]
     [begin as usize, end as usize, riding as usize, rides]
 }
 
-// The steps of the journey that an answer names.
-fn steps_of(answer: Answer, steps: &[usize]) -> &[usize]
-    ensures { result.now ≡ named answer steps.now }
+// Puts the words of a journey behind the text of a line.
+fn push_journey(line: &mut Line, answer: Answer, steps: &[usize]) -> Result<(), CapacityError>
+    ensures { Pushed 8192 line.old.bytes (printed_journey answer steps.now) result line.new.bytes }
 {
-    let length = answer.steps;
-    if length > steps.len() {
-        return steps;
-    }
-    &steps[0..length]
+    push(line, "go")?;
+    push_numbers(line, &told_of(answer.verdict))?;
+    push(line, " :")?;
+    push_numbers(line, answer.named(steps))
 }
 
-// A fault's number, layer and place.
+// A fault's number, layer and place, as a line lists them; no `From`, as for a verdict.
 fn report_of(fault: Fault) -> [usize; 3]
     ensures { result ≡ (reported fault).number ∷ (reported fault).layer ∷ (reported fault).place ∷ [] }
 {
@@ -141,36 +59,44 @@ fn report_of(fault: Fault) -> [usize; 3]
         number,
         layer,
         place,
-    } = fault.report();
+    } = Report::from(fault);
     [usize::from(number), usize::from(layer), place]
 }
 
-// Writes the line of a reply to the front of a table.
-fn place_line(line: &mut [u8], reply: Reply, steps: &[usize]) -> Option<usize>
-    ensures { Placing line.old 0 (printed reply steps.now) line.new result }
+// Puts the words of a fault behind the text of a line.
+fn push_fault(line: &mut Line, fault: Fault) -> Result<(), CapacityError>
+    ensures { Pushed 8192 line.old.bytes (told (reported fault)) result line.new.bytes }
 {
-    match reply {
-        Reply::Accepted => place_last_words(line, 0, b'o', b'k', &[]),
-        Reply::Count(count) => place_count(line, count),
-        Reply::Journey(answer) => place_journey(
-            line,
-            &told_of(answer.verdict),
-            steps_of(answer, steps),
-        ),
-        Reply::Refused(fault) => place_last_words(line, 0, b'n', b'o', &report_of(fault)),
-    }
+    push(line, "no")?;
+    push_numbers(line, &report_of(fault))
 }
 
+// Puts the line of a reply, with the byte that ends it, behind the text of a line.
+fn push_line(
+    line: &mut Line,
+    reply: Result<Reply, Fault>,
+    steps: &[usize],
+) -> Result<(), CapacityError>
+    ensures { Pushed 8192 line.old.bytes (printed reply steps.now) result line.new.bytes }
+{
+    match reply {
+        Ok(Reply::Accepted) => push(line, "ok")?,
+        Ok(Reply::Count(count)) => push_number(line, count)?,
+        Ok(Reply::Journey(answer)) => push_journey(line, answer, steps)?,
+        Err(fault) => push_fault(line, fault)?,
+    }
+    push(line, "\n")
+}
+
+// As the writing of a command, but for what is put in the line; the bytes go to memory that is handed over.
 // Writes the line of a reply, with the byte that ends it, to the front of `out`, and tells its length; none, with
 // nothing written, where it is longer than `out` or than the longest line.
-pub fn write(reply: Reply, steps: &[usize], out: &mut [u8]) -> Option<usize>
+pub fn write(reply: Result<Reply, Fault>, steps: &[usize], out: &mut [u8]) -> Option<usize>
     ensures { Wrote reply steps.now out.old out.new result }
 {
-    let mut line = [0; LONGEST_LINE];
-    let length = place_line(&mut line, reply, steps)?;
-    if length > out.len() {
-        return None;
+    let mut line = Line::new();
+    match push_line(&mut line, reply, steps) {
+        Ok(()) => copy_out(&line, out),
+        Err(_) => None,
     }
-    out[0..length].copy_from_slice(&line[0..length]);
-    Some(length)
 }

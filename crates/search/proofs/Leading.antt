@@ -1,7 +1,8 @@
 -- Who leads, from one event to the next.
-use Rattle.std.proofs.Common.{◌≡◌, ℕ, ◌+◌, ◌<◌, ◌≤◌, List, Some, None, Option, sym, ap, ◌∙◌, subst, ⊎_elim, arith}
+use Rattle.std.proofs.Common.{◌≡◌, ℕ, ◌+◌, ◌<◌, ◌≤◌, List, Some, Option, sym, ap, ◌∙◌, subst, ⊎_elim, arith}
 use Rattle.std.proofs.lemmas.Int.{ints}
 use Rattle.std.proofs.lemmas.Bool.{cases_lt}
+use Rattle.std.proofs.lemmas.Option.{same_Some}
 use Rattle.measures.specs.Measures.{Ops, Score, ◌≼◌}
 use Rattle.journeys.specs.declared.query.Query.{Query}
 use Rattle.walks.proofs.Optimal.{≼_trans}
@@ -9,7 +10,6 @@ use Rattle.steps.specs.declared.entry.Entry.{Entry}
 use Rattle.search.specs.declared.lead.Leader.{Leader}
 use Rattle.steps.specs.Boards.{logged}
 use Rattle.search.specs.Readings.{Ends, Leads, scored}
-use Rattle.steps.proofs.Somes.{some_same}
 
 ≼-total : (s t : Score) → (s ≼ t → ⊥) → t ≼ s
 ≼-total s t h = grind (arith, ints, h)
@@ -22,21 +22,6 @@ module _ {L : Type 0} (m : Ops L) (q : Query) (log : List (Option (Entry L))) (i
   here : (j : ℕ) (e : Entry L) (x : Option (Entry L)) → i ≤ j → j < i + 1 → logged log i q.call ≡ x → logged log j q.call ≡ Some e → x ≡ Some e
   here j e x l u h k = let s : i ≡ j = omega arith in sym h ∙ ap (λ n. logged log n q.call) s ∙ k
 
-  -- an entry for event i that does not end as asked, or none, changes nothing
-  pub leads_still : (x : Option (Leader L)) → ((e : Entry L) → logged log i q.call ≡ Some e → Ends q e → ⊥) → Leads m q log i x → Leads m q log (i + 1) x
-  leads_still None n h =
-      λ j e u k r.
-      ⊎_elim (λ l. h j e l k r)
-      (λ l. let s : i ≡ j = omega arith in n e (ap (λ n. logged log n q.call) s ∙ k) r) (cases_lt j i)
-  leads_still (Some x) n h = (
-    omega (arith, h.0),
-    h.1,
-    h.2,
-    λ j e u k r.
-        ⊎_elim (λ l. h.3 j e l k r)
-        (λ l. let s : i ≡ j = omega arith in absurd (n e (ap (λ n. logged log n q.call) s ∙ k) r)) (cases_lt j i),
-  )
-
   module _ (x : Leader L) (at : x.event ≡ i) (is : logged log i q.call ≡ Some x.entry) (ends : Ends q x.entry) where
     -- one that is not lower changes nothing
     pub leads_kept : (y : Leader L) → scored m y.entry ≼ scored m x.entry → Leads m q log i (Some y) → Leads m q log (i + 1) (Some y)
@@ -46,7 +31,7 @@ module _ {L : Type 0} (m : Ops L) (q : Query) (log : List (Option (Entry L))) (i
       h.2,
       λ j d u k r.
           ⊎_elim (λ l. h.3 j d l k r)
-          (λ l. subst (λ z. scored m y.entry ≼ scored m z) (some_same (here j d (Some x.entry) l u is k)) low) (cases_lt j i),
+          (λ l. subst (λ z. scored m y.entry ≼ scored m z) (same_Some _ _ (here j d (Some x.entry) l u is k)) low) (cases_lt j i),
     )
 
     -- one that is not above all before it leads
@@ -57,11 +42,8 @@ module _ {L : Type 0} (m : Ops L) (q : Query) (log : List (Option (Entry L))) (i
       ends,
       λ j d u k r.
           ⊎_elim (λ l. low j d l k r)
-          (λ l. subst (λ z. scored m x.entry ≼ scored m z) (some_same (here j d (Some x.entry) l u is k)) (≼-itself (scored m x.entry))) (cases_lt j i),
+          (λ l. subst (λ z. scored m x.entry ≼ scored m z) (same_Some _ _ (here j d (Some x.entry) l u is k)) (≼-itself (scored m x.entry))) (cases_lt j i),
     )
-
-    pub leads_first : Leads m q log i None → Leads m q log (i + 1) (Some x)
-    leads_first h = leads_new (λ j d l k r. absurd (h j d l k r))
 
     pub leads_lower : (y : Leader L) → (scored m y.entry ≼ scored m x.entry → ⊥) → Leads m q log i (Some y) → Leads m q log (i + 1) (Some x)
     leads_lower y n h =

@@ -1,8 +1,8 @@
 -- Reading a source up to the close of a query.
-use Rattle.std.proofs.Common.{◌≡◌, ℕ, zero, suc, ◌+◌, ◌*◌, ◌<◌, ◌≤◌, Bool, cond, List, [], ◌∷◌, length, Some, None, Ok, Err, Option, Result, sym, refl, ap, ◌∙◌, subst, ⊎_elim, arith}
+use Rattle.std.proofs.Common.{◌≡◌, ℕ, zero, suc, ◌+◌, ◌*◌, ◌<◌, ◌≤◌, Bool, cond, List, [], ◌∷◌, length, Some, None, Ok, Err, Result, sym, ap, ◌∙◌, subst, ⊎_elim, arith}
 use Rattle.std.proofs.lemmas.Bool.{cases_lt, le-leb, lt-leb}
-use Rattle.std.proofs.lemmas.Option.{slice_get-get_or}
 use Rattle.std.specs.List.{slice_get}
+use Rattle.std.proofs.lemmas.Option.{same_Some, slice_get-get_or}
 use Rattle.faults.specs.declared.Fault.{Fault}
 use Rattle.records.specs.declared.event.Event.{Event}
 use Rattle.records.specs.declared.event.Event.TheVariants.{Opening}
@@ -14,24 +14,21 @@ use Rattle.journeys.proofs.Chains.{times_rise}
 use Rattle.sources.specs.Sources.{Reading}
 use Rattle.sources.proofs.Readings.{at_end, before_end}
 use Rattle.walks.specs.Logs.{first_late}
-use Rattle.steps.specs.declared.arrival.Arrival.{Arrival}
-use Rattle.steps.specs.declared.board.Standing.{Standing}
-use Rattle.steps.specs.declared.entry.Entry.{Entry}
-use Rattle.search.specs.Readings.{Cleared, ReadUp}
+use Rattle.search.specs.Readings.{ReadUp}
 use Rattle.steps.specs.Standing.{Room, StandsRight, Stepping, Steps}
-use Rattle.steps.proofs.Somes.{none_some, some_same}
+use Rattle.steps.specs.Tables.{Contents}
 
 -- the events before k are done: the source stands at k, none of them was later than the close, and the search stands right
-pub record StandingAt {L : Type 0} (m : Ops L) (es : List Event) (p : ℕ → Bool) (q : Query) (ns : List Event) (place k : ℕ) (log : List (Option (Entry L))) (board : List (Option (Standing L))) (queue : List Arrival) (used : ℕ) : Type 0 where
+pub record StandingAt {L : Type 0} (m : Ops L) (es : List Event) (p : ℕ → Bool) (q : Query) (ns : List Event) (place k : ℕ) (tables : Contents L) : Type 0 where
   pub same : ns ≡ es
   pub at : place ≡ k
   pub before : (i : ℕ) → i < k → time_of (numbered es i) ≤ q.close
-  pub few : used ≤ k * 2
-  pub log_long : length es * 2 ≤ length log
-  pub queue_long : length es * 2 ≤ length queue
+  pub few : tables.used ≤ k * 2
+  pub log_long : length es * 2 ≤ length tables.log
+  pub queue_long : length es * 2 ≤ length tables.queue
   pub clock : ℕ
   pub in_time : k < length es → clock ≤ time_of (numbered es k)
-  pub stands : StandsRight m es p q k clock log board queue used
+  pub stands : StandsRight m es p q k clock tables
 
 -- the first late event is the one behind those that are not
 pub first_late_is : (es : List Event) (c k : ℕ) → k ≤ length es → ((i : ℕ) → i < k → time_of (numbered es i) ≤ c) → (k < length es → c < time_of (numbered es k)) → first_late es c ≡ k
@@ -41,40 +38,8 @@ first_late_is (e ∷ es) c (suc k) l b h =
     ap (λ t. cond t (suc (first_late es c)) 0) (le-leb (time_of e) c (b 0 (omega arith)))
     ∙ ap suc (first_late_is es c k (omega arith) (λ i u. b (suc i) (omega arith)) (λ u. h (omega arith)))
 
--- tables without entries stand right before the first event
-module _ {L : Type 0} (m : Ops L) (es : List Event) (p : ℕ → Bool) (q : Query) (log : List (Option (Entry L))) (board : List (Option (Standing L))) (queue : List Arrival) (no_entry : Cleared log) (no_one : Cleared board) (wide : 512 ≤ length board) where
-  stands_first : StandsRight m es p q 0 0 log board queue 0
-  stands_first =
-      record {
-        accounts =
-            record {
-              heaped = λ i k d l u v. absurd (omega arith);
-              wide = wide;
-              near = λ j c e h. absurd (none_some (sym (no_entry _) ∙ h));
-              queued = λ a h. absurd (omega (arith, h.1));
-              standing = λ s c x l h. absurd (none_some (sym (no_one _) ∙ h));
-              covered = λ j c e h. absurd (none_some (sym (no_entry _) ∙ h));
-            };
-        agrees = λ j c e h. absurd (none_some (sym (no_entry _) ∙ h));
-        right = λ i c l. absurd (omega arith);
-      }
-
-  pub standing_first : (place : ℕ) → place ≡ 0 → length es * 2 ≤ length log → length es * 2 ≤ length queue → StandingAt m es p q es place 0 log board queue 0
-  standing_first place z u v =
-      record {
-        same = refl;
-        at = z;
-        before = λ i l. absurd (omega arith);
-        few = omega arith;
-        log_long = u;
-        queue_long = v;
-        clock = 0;
-        in_time = λ l. omega arith;
-        stands = stands_first;
-      }
-
 -- an event more, and the end of the reading
-module _ {L : Type 0} (m : Ops L) (es : List Event) (p : ℕ → Bool) (q : Query) (listed : Listed es) (ns : List Event) (place k : ℕ) (log : List (Option (Entry L))) (board : List (Option (Standing L))) (queue : List Arrival) (used : ℕ) (here : StandingAt m es p q ns place k log board queue used) (ns' : List Event) (place' : ℕ) where
+module _ {L : Type 0} (m : Ops L) (es : List Event) (p : ℕ → Bool) (q : Query) (listed : Listed es) (ns : List Event) (place k : ℕ) (tables : Contents L) (here : StandingAt m es p q ns place k tables) (ns' : List Event) (place' : ℕ) where
   module _ (e : Event) (reading : Reading ns place (Some e) ns' place') where
     item : Some e ≡ slice_get es k
     item = reading.item ∙ ap (λ l. slice_get l place) here.same ∙ ap (slice_get es) here.at
@@ -83,21 +48,21 @@ module _ {L : Type 0} (m : Ops L) (es : List Event) (p : ℕ → Bool) (q : Quer
     inside = before_end es k e item
 
     is_event : numbered es k ≡ e
-    is_event = let n = slice_get-get_or es k (Opening 0 0) inside in some_same (sym n ∙ sym item)
+    is_event = let n = slice_get-get_or es k (Opening 0 0) inside in same_Some _ _ (sym n ∙ sym item)
 
     next_place : place' ≡ k + 1
     next_place = omega (arith, reading.step, here.at, ap length here.same, inside)
 
-    room : Room k (length log) (length queue) used
+    room : Room k tables
     room = (omega (arith, here.log_long, inside), omega (arith, here.queue_long, here.few, inside))
 
     -- there is room for the event, so the step is taken
-    stepped_on : {force : Bool} {log' : List (Option (Entry L))} {board' : List (Option (Standing L))} {queue' : List Arrival} {used' : ℕ} (r : Result (Unit {0}) Fault) → Stepping m q k e force log board queue used r log' board' queue' used' → Steps m q k e force log board queue used log' board' queue' used' × (used' ≤ used + 2)
+    stepped_on : {force : Bool} {after : Contents L} (r : Result (Unit {0}) Fault) → Stepping m q k e force tables r after → Steps m q k e force tables after × (after.used ≤ tables.used + 2)
     stepped_on (Ok u) s = (s.1, s.2)
     stepped_on (Err f) s = absurd (s.0 room)
 
-    pub standing_more : (force : Bool) → force ≡ p k → time_of e ≤ q.close → (log' : List (Option (Entry L))) (board' : List (Option (Standing L))) (queue' : List Arrival) (used' : ℕ) → (r : Result (Unit {0}) Fault) → Stepping m q k e force log board queue used r log' board' queue' used' → length log' ≡ length log → length queue' ≡ length queue → StandingAt m es p q ns' place' (k + 1) log' board' queue' used'
-    standing_more force f early log' board' queue' used' r step long long' =
+    pub standing_more : (force : Bool) → force ≡ p k → time_of e ≤ q.close → (after : Contents L) (r : Result (Unit {0}) Fault) → Stepping m q k e force tables r after → length after.log ≡ length tables.log → length after.queue ≡ length tables.queue → StandingAt m es p q ns' place' (k + 1) after
+    standing_more force f early after r step long long' =
         let stepped = stepped_on r step in
         record {
           same = reading.same ∙ here.same;
@@ -118,7 +83,7 @@ module _ {L : Type 0} (m : Ops L) (es : List Event) (p : ℕ → Bool) (q : Quer
         }
 
     -- the first event that is later than the close ends the reading
-    pub read_late : q.close < time_of e → ReadUp m es p q log k ns' place'
+    pub read_late : q.close < time_of e → ReadUp m es p q tables.log k ns' place'
     read_late late =
         let n = first_late_is es q.close k (omega (arith, inside)) here.before (λ _. subst (λ x. q.close < time_of x) (sym is_event) late) in
         record {
@@ -132,7 +97,7 @@ module _ {L : Type 0} (m : Ops L) (es : List Event) (p : ℕ → Bool) (q : Quer
         }
 
   -- and so does the end of the list
-  pub read_all : place ≤ length ns → Reading ns place None ns' place' → ReadUp m es p q log k ns' place'
+  pub read_all : place ≤ length ns → Reading ns place None ns' place' → ReadUp m es p q tables.log k ns' place'
   read_all u reading =
       let past = at_end ns place (Opening 0 0) reading.item in
       let all : k ≡ length es = omega (arith, past, u, here.at, ap length here.same) in

@@ -1,11 +1,8 @@
 -- From a log that is right up to the close to the best journey.
-use Rattle.std.proofs.Common.{◌≡◌, ℕ, ◌*◌, ◌<◌, ◌≤◌, Bool, ◌&&◌, leb, List, ◌++◌, length, take, drop, Some, None, Option, sym, ap, ◌∙◌, subst, arith}
+use Rattle.std.proofs.Common.{◌≡◌, ℕ, ◌+◌, ◌<◌, ◌≤◌, min, Bool, false, eqb, List, ◌++◌, length, take, drop, Some, None, Option, sym, ap, ◌∙◌, subst, arith}
 use Rattle.std.proofs.lemmas.List.{drop_all, drop-append-le, take_all, take-append-le}
-use Rattle.std.proofs.lemmas.Bool.{and_parts, leb-true}
+use Rattle.std.proofs.lemmas.Bool.{both_ways, eq-eqb}
 use Rattle.std.specs.Option.{option_map}
-use Rattle.faults.specs.declared.Fault.TheVariants.{StepTableTooShort, WorkTableTooShort}
-use Rattle.faults.specs.Rules.{Kept}
-use Rattle.faults.proofs.Rules.{kept_parts}
 use Rattle.records.specs.declared.event.Event.{Event}
 use Rattle.records.specs.Events.{Listed}
 use Rattle.measures.specs.Measures.{Laws, Ops, ◌≼◌}
@@ -24,26 +21,13 @@ use Rattle.search.specs.declared.lead.Leader.{Leader}
 use Rattle.search.specs.declared.finder.Arrived.{Arrived}
 use Rattle.steps.specs.Boards.{logged}
 use Rattle.search.specs.Carrying.{carrying}
-use Rattle.search.specs.Queries.{Tables, table_rules}
 use Rattle.search.specs.Readings.{Ends, Leads, ReadUp, Travelled, telling}
-use Rattle.search.specs.Searches.{Named, answer_of, reads_of}
+use Rattle.search.specs.Searches.{Found, Named, answer_of, reads_of}
+use Rattle.search.specs.declared.answer.Answer.{Answer}
 use Rattle.search.specs.Tracing.{Backward}
 use Rattle.steps.specs.Views.{noted, origin_of, view}
 use Rattle.search.specs.Carryings.{label_carries}
 use Rattle.steps.proofs.Entries.{viewed}
-
--- tables that break no rule are long enough
-pub tables_long : (n : ℕ) (t : Tables) → Kept (table_rules n t) → (n * 2 ≤ t.log) × (512 ≤ t.board) × (n * 2 ≤ t.queue) × (n ≤ t.steps)
-tables_long n t k =
-    let work = kept_parts (leb (n * 2) t.log && (leb 512 t.board && leb (n * 2) t.queue)) _ WorkTableTooShort k in
-    let step = kept_parts (leb n t.steps) None StepTableTooShort work.1 in
-    let first = and_parts (leb (n * 2) t.log) (leb 512 t.board && leb (n * 2) t.queue) work.0 in
-    let second = and_parts (leb 512 t.board) (leb (n * 2) t.queue) first.1 in (
-      leb-true (n * 2) t.log first.0,
-      leb-true 512 t.board second.0,
-      leb-true (n * 2) t.queue second.1,
-      leb-true n t.steps step.0,
-    )
 
 module _ {L : Type 0} (m : Ops L) (laws : Laws m) (es : List Event) (p : ℕ → Bool) (q : Query) (listed : Listed es) (log : List (Option (Entry L))) (n : ℕ) (es' : List Event) (place' : ℕ) (read : ReadUp m es p q log n es' place') where
   -- an origin is an earlier event
@@ -52,9 +36,9 @@ module _ {L : Type 0} (m : Ops L) (laws : Laws m) (es : List Event) (p : ℕ →
   earlier i c l o j b (linked k d a r kn lt link pass z) h = let s : k ≡ j = cc in omega arith
 
   pub backward : Backward log
-  backward i c e j b h o =
+  backward i c e s h o =
       let v : view log i c ≡ Some (noted e) = ap (option_map noted) h in
-      earlier i c e.label (origin_of e.origin) j b
+      earlier i c e.label (origin_of e.origin) s.event s.called
       (own m laws es p q listed (view log) n read.right i c (view log i c) e.label (origin_of e.origin) (read.right i c (read.near i c e h)) v)
       (ap origin_of o)
 
@@ -96,6 +80,41 @@ module _ {L : Type 0} (m : Ops L) (laws : Laws m) (es : List Event) (p : ℕ →
         let best = gives_best m laws es p q (view log) n listed apart read.right late i e.label (origin_of e.origin) r low in
         (j.0, j.1, j.2, sym j.3, a.1 ∙ sym j.4, subst (Least m es p q) (sym j.5) best)
 
+-- what came of reading up for a query that was asked, and of tracing back from who leads
+module _ {L : Type 0} (m : Ops L) (laws : Laws m) (es : List Event) (p : ℕ → Bool) (q : Query) (listed : Listed es) (apart : eqb q.from q.to ≡ false) (asked : Query) (same : asked ≡ q) (log : List (Option (Entry L))) (n : ℕ) (es' : List Event) (place' : ℕ) (read : ReadUp m es p asked log n es' place') where
+  read_so : ReadUp m es p q log n es' place'
+  read_so = subst (λ a. ReadUp m es p a log n es' place') same read
+
+  differ : q.from ≡ q.to → ⊥
+  differ h = both_ways _ apart (eq-eqb _ _ h)
+
+  pub travelled_none : (steps steps' : List ℕ) → Leads m asked log n None → steps' ≡ steps → Travelled m es p q steps None steps'
+  travelled_none steps steps' h e = (none_fits m laws es p q listed log n es' place' read_so differ (subst (λ a. Leads m a log n None) same h), e)
+
+  module _ (x : Leader L) (leads : Leads m asked log n (Some x)) where
+    best : (js : List ℕ) × Traced (view log) x.event q.call js × Fits es p q js × (x.entry.label ≡ label_of m es js) × (x.entry.end ≡ ending es js) × Least m es p q (score_of m es js)
+    best = leader_best m laws es p q listed log n es' place' read_so differ x (subst (λ a. Leads m a log n (Some x)) same leads)
+
+    pub journey : (js : List ℕ) × Traced (view log) x.event asked.call js
+    journey = (best.0, subst (λ a. Traced (view log) x.event a.call best.0) (sym same) best.1)
+
+    pub travelled_some : (steps steps' : List ℕ) (count reads : ℕ)
+        → ((js : List ℕ) → Traced (view log) x.event asked.call js → count ≡ length js)
+        → ((js : List ℕ) → Traced (view log) x.event asked.call js → steps' ≡ js ++ drop (length js) steps)
+        → reads ≡ min (n + 1) (length es')
+        → Travelled m es p q steps (Some (record { label = x.entry.label; end = x.entry.end; steps = count; reads = reads })) steps'
+    unfolding best journey
+    travelled_some steps steps' count reads counted written ended = (
+      best.0,
+      best.2,
+      best.3,
+      best.4,
+      counted best.0 journey.1,
+      omega (arith, ended, ap length read_so.same, read_so.count),
+      written best.0 journey.1,
+      best.5,
+    )
+
 -- the score of a journey is the same with what its label carries along
 score_carries : {L : Type 0} (m : Ops L) (es : List Event) (p : ℕ → Bool) (q : Query) → Listed es → (js : List ℕ) → Fits es p q js → score_of (carrying m) es js ≡ score_of m es js
 score_carries m es p q listed js fits =
@@ -128,3 +147,11 @@ travelled_named {L} m es p q listed steps a steps' (js, fits, label, end, count,
       told = told ∙ ap (λ ks. answer_of m es ks (reads_of es q.close)) (sym front);
       rest = rest;
     }
+
+-- and of no journey none is told
+pub told_found : {L : Type 0} (m : Ops L) (es : List Event) (p : ℕ → Bool) (q : Query) → Listed es → (steps : List ℕ) (o : Option (Arrived (Carried L))) (r : Option Answer) (steps' : List ℕ) → r ≡ option_map (telling m) o → Travelled (carrying m) es p q steps o steps' → Found m es p q steps r steps'
+told_found m es p q listed steps o r steps' e t = subst (λ x. Found m es p q steps x steps') (sym e) (by_case o t)
+  where
+    by_case : (o : Option (Arrived (Carried _))) → Travelled (carrying m) es p q steps o steps' → Found m es p q steps (option_map (telling m) o) steps'
+    by_case None t = t
+    by_case (Some a) t = travelled_named m es p q listed steps a steps' t

@@ -2,16 +2,14 @@
 use Rattle.std.proofs.Common.{◌≡◌, ℕ, ◌+◌, ◌-◌, ◌<◌, ◌≤◌, Bool, List, [], ◌∷◌, ◌++◌, length, drop, set, Some, None, Option, sym, refl, ap, ◌∙◌, subst, append_assoc, arith, length-append, length-set}
 use Rattle.std.proofs.lemmas.List.{drop-set}
 use Rattle.std.specs.Option.{option_map}
+use Rattle.std.proofs.lemmas.Option.{none-some, same_Some}
 use Rattle.walks.specs.Logs.{Log, Traced, after, first, start, then}
 use Rattle.walks.specs.Logs as logs
 use Rattle.steps.specs.declared.entry.Entry.{Entry}
-use Rattle.steps.specs.declared.entry.Origin.{Origin}
-use Rattle.steps.specs.declared.entry.Origin.TheVariants.{After, Start}
-use Rattle.search.specs.declared.trace.Stage.{Stage}
+use Rattle.steps.specs.declared.entry.Stage.{Stage}
 use Rattle.steps.specs.Boards.{logged}
-use Rattle.search.specs.Tracing.{Backward, before_entry, before_origin, stage_before}
+use Rattle.search.specs.Tracing.{Backward, before_entry, stage_before}
 use Rattle.steps.specs.Views.{noted, origin_of, view}
-use Rattle.steps.proofs.Somes.{none_some, some_same}
 
 -- what tracing spells from a stage on, and nothing where there is no stage
 abbrev pub Rest : {L : Type 0} → Log L → Option Stage → List ℕ → Type 0
@@ -22,13 +20,9 @@ Rest g (Some s) ks = Traced g s.event s.called ks
 pub before_earlier : {L : Type 0} (log : List (Option (Entry L))) (s b : Stage) → Backward log → stage_before log s ≡ Some b → b.event < s.event
 before_earlier {L} log s b backward = by_entry (logged log s.event s.called) refl
   where
-    by_origin : (e : Entry L) (o : Origin) → logged log s.event s.called ≡ Some e → e.origin ≡ o → before_origin o ≡ Some b → b.event < s.event
-    by_origin e Start l p h = absurd (none_some h)
-    by_origin e (After j c) l p h = subst (λ (t : Stage). t.event < s.event) (some_same h) (backward s.event s.called e j c l p)
-
     by_entry : (r : Option (Entry L)) → logged log s.event s.called ≡ r → before_entry r ≡ Some b → b.event < s.event
-    by_entry None l h = absurd (none_some h)
-    by_entry (Some e) l h = by_origin e e.origin l refl h
+    by_entry None l h = absurd (none-some _ h)
+    by_entry (Some e) l h = backward s.event s.called e b l h
 
 -- the stage that an origin names
 abbrev named : logs.Origin → Option Stage
@@ -37,12 +31,12 @@ named (after j b) = Some (record { event = j; called = b })
 
 -- the stage before is the one that the entry's origin names
 before_named : {L : Type 0} (r : Option (Entry L)) (l : L) (o : logs.Origin) → option_map noted r ≡ Some (l, o) → before_entry r ≡ named o
-before_named None l o h = absurd (none_some h)
-before_named (Some e) l o h = by_origin e.origin ∙ ap (λ x. named x.1) (some_same h)
+before_named None l o h = absurd (none-some _ h)
+before_named (Some e) l o h = by_origin e.origin ∙ ap (λ x. named x.1) (same_Some _ _ h)
   where
-    by_origin : (a : Origin) → before_origin a ≡ named (origin_of a)
-    by_origin Start = refl
-    by_origin (After j b) = refl
+    by_origin : (a : Option Stage) → a ≡ named (origin_of a)
+    by_origin None = refl
+    by_origin (Some b) = refl
 
 -- what is traced ends with its stage, after what is traced from the stage before
 pub traced_back : {L : Type 0} (log : List (Option (Entry L))) (i : ℕ) (c : Bool) (o : Option Stage) (js : List ℕ) → o ≡ before_entry (logged log i c) → Traced (view log) i c js → (ks : List ℕ) × Rest (view log) o ks × (js ≡ ks ++ i ∷ [])
@@ -60,7 +54,7 @@ traced_long (then i c l j b ks h t) = simp length-append (omega arith)
 
 -- an entry has one origin
 origin_once : {L : Type 0} {x : Option (L × logs.Origin)} {l m : L} {o u : logs.Origin} → x ≡ Some (l, o) → x ≡ Some (m, u) → o ≡ u
-origin_once h k = ap (λ x. x.1) (some_same (sym h ∙ k))
+origin_once h k = ap (λ x. x.1) (same_Some _ _ (sym h ∙ k))
 
 -- tracing from a stage spells one list
 pub traced_once : {L : Type 0} (g : Log L) (i : ℕ) (c : Bool) (js ks : List ℕ) → Traced g i c js → Traced g i c ks → js ≡ ks
@@ -92,11 +86,6 @@ pub record Writing {L : Type 0} (g : Log L) (last next : Option Stage) (old new 
   pub many : place ≡ length ks
   pub room : place ≤ length new
   pub makes : ks ++ drop place new ≡ js ++ drop (length js) old
-
--- before the first step is written
-pub writing_none : {L : Type 0} (g : Log L) (last : Stage) (old js : List ℕ) (place : ℕ) → Traced g last.event last.called js → place ≡ length js → place ≤ length old → Writing g (Some last) (Some last) old old place
-writing_none g last old js place t e h =
-    record { js = js; ks = js; whole = t; left = t; many = e; room = h; makes = ap (λ k. js ++ drop k old) e }
 
 module _ {L : Type 0} {g : Log L} {last next : Option Stage} {old new : List ℕ} {place : ℕ} (w : Writing g last next old new place) where
   -- there is a place for the step that is written next

@@ -2,11 +2,11 @@
 --     query_rules q    the rules that a query obeys, in the order in which they are tested: its stops differ; it
 --                      does not close before it opens, nor after minute 999,999
 --     checked q        what checking a query answers: the query, or the first broken rule's fault
---     Tables           the lengths of the handed tables: log, board, queue of arrivals, steps
---     tables l b a s   the lengths of these tables
---     table_rules n t  the rules that they obey for n events: two entries of the log and two slots of the queue for
---                      each, 512 entries of the board; and a slot of the step table for each
-use Rattle.std.specs.Prelude.{ℕ, ◌*◌, not, ◌&&◌, List, [], ◌∷◌, length, Result, ◌==◌, nat_le}
+--     Lengths          the lengths of the handed tables: log, board, queue of arrivals, steps
+--     table_rules n t  the rules that tables of the lengths t obey for n events: two entries of the log and two slots
+--                      of the queue for each, 512 entries of the board; and a slot of the step table for each
+--     LongEnough n t   tables of the lengths t obey these rules
+use Rattle.std.specs.Prelude.{ℕ, ◌*◌, not, ◌&&◌, ◌≤◌, List, [], ◌∷◌, Result, ◌==◌, nat_le}
 use Rattle.faults.specs.declared.Fault.{Fault}
 use Rattle.faults.specs.declared.Fault.TheVariants.{BadWindow, EqualQueryStops, StepTableTooShort, WorkTableTooShort}
 use Rattle.faults.specs.Rules.{Rule, judged}
@@ -21,17 +21,20 @@ query_rules q =
 abbrev pub checked : Query → Result Query Fault
 checked q = judged (query_rules q) q
 
-pub record Tables : Type 0 where
+pub record Lengths : Type 0 where
   pub log : ℕ
   pub board : ℕ
   pub queue : ℕ
   pub steps : ℕ
 
-abbrev pub tables : {X Y Z W : Type 0} → List X → List Y → List Z → List W → Tables
-tables l b a s = record { log = length l; board = length b; queue = length a; steps = length s }
-
-abbrev pub table_rules : ℕ → Tables → List Rule
+abbrev pub table_rules : ℕ → Lengths → List Rule
 table_rules n t =
     (nat_le (n * 2) t.log && (nat_le 512 t.board && nat_le (n * 2) t.queue), WorkTableTooShort)
     ∷ (nat_le n t.steps, StepTableTooShort)
     ∷ []
+
+pub record LongEnough (n : ℕ) (t : Lengths) : Type 0 where
+  pub log : n * 2 ≤ t.log
+  pub board : 512 ≤ t.board
+  pub queue : n * 2 ≤ t.queue
+  pub steps : n ≤ t.steps

@@ -5,9 +5,7 @@ ghost use Rattle.search.specs.Queries.{checked};
 
 use faults::Fault;
 use journeys::Query;
-
-// The last minute that a timetable has.
-const LAST_MINUTE: u32 = 999_999;
+use records::LAST_MINUTE;
 
 // A query whose stops differ, and whose window does not close before it opens, nor after the last minute.
 #[derive(Clone, Copy)]

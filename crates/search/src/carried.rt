@@ -5,7 +5,7 @@ ghost use Rattle.search.specs.Carryings.{carrying_laws};
 use measures::Measure;
 
 // A measure's label, and when the journey began, the minutes ridden and the rides so far.
-#[derive(Clone, Copy)]
+#[derive(Clone, Copy, PartialEq, Eq, Debug)]
 pub struct Carried<L> {
     pub label: L,
     pub begin: u32,

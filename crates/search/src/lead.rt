@@ -3,10 +3,11 @@ ghost use Rattle.std.specs.Prelude.{◌≡◌, ◌≤◌, Decides};
 ghost use Rattle.measures.specs.Measures.{◌≼◌};
 ghost use Rattle.search.specs.Readings.{Contends, Leads, LeadsOn, scored};
 
+use crate::tables::Tables;
 use journeys::Query;
 use measures::Measure;
 use records::Stop;
-use steps::{Entry, entry_for};
+use steps::{Entry, Stage, entry_for};
 
 // An entry and the event that it is for.
 #[derive(Clone, Copy)]
@@ -26,22 +27,12 @@ fn ends_rightly(query: Query, stop: Stop, end: u32) -> bool
 fn contender<L: Copy>(query: Query, event: usize, entry: Option<Entry<L>>) -> Option<Leader<L>>
     ensures { Contends query event entry result }
 {
-    match entry {
-        Some(noted) => {
-            if ends_rightly(query, noted.stop, noted.end) {
-                Some(Leader {
-                    event,
-                    entry: noted,
-                })
-            } else {
-                None
-            }
-        }
-        None => None,
-    }
+    entry
+        .filter(|noted| ends_rightly(query, noted.stop, noted.end))
+        .map(|entry| Leader { event, entry })
 }
 
-// Whether a score is not higher than another.
+// Whether a score is not higher than another: the comparison of tuples, under the word that contracts use.
 fn not_higher(first: (i64, i64), second: (i64, i64)) -> bool
     ensures { Decides result (first ≼ second) }
 {
@@ -79,15 +70,20 @@ fn lead<M: Measure>(
 
 // Of the entries for the events before `done` that end as the query asks, one with the lowest score.
 pub(crate) fn lowest<M: Measure>(
-    log: &[Option<Entry<M::Label>>],
+    tables: &Tables<'_, M::Label>,
     query: Query,
     done: usize,
 ) -> Option<Leader<M::Label>>
-    ensures { Leads M.ops query log.now done result }
+    ensures { Leads M.ops query tables.now.log.now done result }
 {
+    // A fold was tried: what its closure promises would be the induction over again.
     let mut leader = None;
     for event in 0..done {
-        leader = lead::<M>(leader, query, event, entry_for(log, event, query.call));
+        let stage = Stage {
+            event,
+            called: query.call,
+        };
+        leader = lead::<M>(leader, query, event, entry_for(tables.log, stage));
     }
     leader
 }

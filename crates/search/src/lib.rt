@@ -7,9 +7,11 @@ mod carried;
 mod finder;
 mod lead;
 mod read;
+mod tables;
 mod trace;
 
 pub use answer::Answer;
 pub use asked::CheckedQuery;
 pub use carried::{Carried, Carrying};
 pub use finder::search;
+pub use tables::{BOARD_SLOTS, Tables};

@@ -2,31 +2,23 @@
 ghost use Rattle.std.specs.Prelude.{◌≡◌, ◌*◌, ◌≤◌, length, nat_lt};
 ghost use Rattle.records.specs.Events.{time_of};
 ghost use Rattle.journeys.specs.Verdicts.{in_force};
+ghost use Rattle.steps.specs.Tables.{SameWork};
+ghost use Rattle.search.specs.Queries.{LongEnough};
 ghost use Rattle.search.specs.Readings.{Cleared, ReadUp};
+ghost use Rattle.search.specs.Tables.{SameTables, lengths};
 
-use journeys::Query;
+use crate::tables::Tables;
+use journeys::{Query, is_in_force};
 use measures::Measure;
 use records::Event;
 use sources::Source;
-use steps::{Arrival, Entry, Standing, step};
+use steps::Work;
 
 // Empties every slot of a table.
-pub(crate) fn clear<T: Copy>(table: &mut [Option<T>])
+fn clear<T: Copy>(table: &mut [Option<T>])
     ensures { Cleared table.new }
 {
-    for slot in table.iter_mut() {
-        *slot = None;
-    }
-}
-
-// Whether the marks leave an event in force; beyond them every event is.
-fn is_in_force(marks: &[bool], number: usize) -> bool
-    ensures { result ≡ in_force marks.now number }
-{
-    if number >= marks.len() {
-        return true;
-    }
-    !marks[number]
+    table.fill(None);
 }
 
 // Whether an event is later than a minute.
@@ -37,19 +29,23 @@ fn is_later(event: Event, minute: u32) -> bool
 }
 
 // Reads a source from its start, takes each event up to the query's close as a step, and tells how many there are.
-pub(crate) fn read_up<S: Source, M: Measure>(
+fn read_on<S: Source, M: Measure>(
     source: &mut S,
     marks: &[bool],
     query: Query,
-    log: &mut [Option<Entry<M::Label>>],
-    board: &mut [Option<Standing<M::Label>>],
-    queue: &mut [Arrival],
+    work: &mut Work<'_, M::Label>,
 ) -> usize
-    requires { (Cleared log.old) × ((Cleared board.old) × ((length (S.events source.old) * 2 ≤ length log.old) × ((512 ≤ length board.old) × (length (S.events source.old) * 2 ≤ length queue.old)))) }
-    ensures { ReadUp M.ops (S.events source.old) (in_force marks.now) query log.new result (S.events source.new) (S.place source.new) }
+    requires no_entry { Cleared work.old.log.now }
+    requires no_one { Cleared work.old.board.now }
+    requires none_awaited { work.old.used ≡ 0 }
+    requires log { length (S.events source.old) * 2 ≤ length work.old.log.now }
+    requires board { 512 ≤ length work.old.board.now }
+    requires queue { length (S.events source.old) * 2 ≤ length work.old.queue.now }
+    ensures read { ReadUp M.ops (S.events source.old) (in_force marks.now) query work.new.log.now result (S.events source.new) (S.place source.new) }
+    ensures same { SameWork work.old work.new }
 {
     source.rewind();
-    let mut used = 0;
+    // A source is no iterator: it stands at a place, and every read is a call on it. So the number is counted here.
     let mut number = 0;
     while let Some(event) = source.next() {
         if is_later(event, query.close) {
@@ -57,8 +53,32 @@ pub(crate) fn read_up<S: Source, M: Measure>(
         }
         let in_force = is_in_force(marks, number);
         // Not refused, since there is room for every event of the source.
-        let _ = step::<M>(log, board, queue, &mut used, query, number, event, in_force);
+        let _ = work.step::<M>(query, number, event, in_force);
         number += 1;
     }
     number
+}
+
+// Reads a source up to the query's close, in tables that are long enough, and tells how many events there are up to it. That
+// they are is handed down from the test that found it.
+pub(crate) fn read_up<S: Source, M: Measure>(
+    source: &mut S,
+    marks: &[bool],
+    query: Query,
+    tables: &mut Tables<'_, M::Label>,
+) -> usize
+    requires { LongEnough (length (S.events source.old)) (lengths tables.old) }
+    ensures read { ReadUp M.ops (S.events source.old) (in_force marks.now) query tables.new.log.now result (S.events source.new) (S.place source.new) }
+    ensures steps { tables.new.steps.now ≡ tables.old.steps.now }
+    ensures same { SameTables tables.old tables.new }
+{
+    clear(tables.log);
+    clear(tables.board);
+    let mut work = Work {
+        log: tables.log,
+        board: tables.board,
+        queue: tables.queue,
+        used: 0,
+    };
+    read_on::<S, M>(source, marks, query, &mut work)
 }

@@ -1,57 +1,43 @@
 // A search under one measure, whose answer is held against the judge before it is told.
-use crate::day::Day;
-use crate::tables::Tables;
-use journeys::{Verdict, judge};
+use crate::day::reads;
+use heap_tables::{HeapTables, NONSENSE, is_nonsense_behind};
+use journeys::judge;
 use measures::Measure;
+use scripts::Day;
 use search::{Answer, CheckedQuery, search};
 use sources::RecordSource;
 use std::fmt;
 
-// What came of a search.
+// An answer that does not hold.
 #[derive(Clone, Copy)]
-pub(crate) enum Outcome {
-    // No journey fits.
-    Nothing,
-    // The lowest score, of a journey that was named.
-    Best { first: i64, second: i64 },
-    // An answer that does not hold.
-    Wrong,
-}
+pub(crate) struct Wrong;
 
-impl fmt::Display for Outcome {
+// The lowest score, of a journey that was named, if any fits.
+#[derive(Clone, Copy)]
+pub(crate) struct Found(Option<(i64, i64)>);
+
+impl fmt::Display for Found {
     fn fmt<W: fmt::Write>(&self, f: &mut fmt::Formatter<W>) -> fmt::Result {
-        match *self {
-            Outcome::Nothing => write!(f, "none"),
-            Outcome::Best { first, second } => write!(f, "{first};{second}"),
-            Outcome::Wrong => write!(f, "wrong"),
+        match self.0 {
+            Some((first, second)) => write!(f, "{first};{second}"),
+            None => write!(f, "none"),
         }
     }
 }
 
-fn same_verdict(told: Verdict, judged: Verdict) -> bool {
-    told.begin == judged.begin
-        && told.end == judged.end
-        && told.riding == judged.riding
-        && told.rides == judged.rides
-        && told.score == judged.score
+impl fmt::Display for Wrong {
+    fn fmt<W: fmt::Write>(&self, f: &mut fmt::Formatter<W>) -> fmt::Result {
+        write!(f, "wrong")
+    }
 }
 
 // Whether an answer names a journey that is judged to be what the answer says, and tells the reads that are due.
-fn holds<M: Measure>(
-    day: &Day,
-    query: CheckedQuery,
-    answer: Answer,
-    tables: &Tables<M::Label>,
-) -> bool {
-    let Some(named) = tables.steps.get(0..answer.steps) else {
-        return false;
-    };
-    let Some(verdict) = judge::<M>(&day.events, &day.marks, query.query(), named) else {
-        return false;
-    };
-    same_verdict(answer.verdict, verdict)
-        && answer.reads == day.reads(query.query().close)
-        && tables.is_spoilt_behind(answer.steps)
+fn holds<M: Measure>(day: &Day, query: CheckedQuery, answer: Answer, steps: &[usize]) -> bool {
+    let judged = judge::<M>(&day.events, &day.marks, query.query(), answer.named(steps));
+    judged == Some(answer.verdict)
+        && answer.steps <= steps.len()
+        && answer.reads == reads(day, query.query().close)
+        && is_nonsense_behind(steps, answer.steps)
 }
 
 // Searches a day's source under a measure, in tables that are full of rubbish.
@@ -59,24 +45,15 @@ pub(crate) fn best<M: Measure>(
     day: &Day,
     source: &mut RecordSource,
     query: CheckedQuery,
-    tables: &mut Tables<M::Label>,
-) -> Outcome {
-    tables.spoil_steps();
-    let found = search::<RecordSource, M>(
-        source,
-        &day.marks,
-        query,
-        &mut tables.log,
-        &mut tables.board,
-        &mut tables.queue,
-        &mut tables.steps,
-    );
+    tables: &mut HeapTables<M::Label>,
+) -> Result<Found, Wrong> {
+    tables.steps.fill(NONSENSE);
+    let found = search::<RecordSource, M>(source, &day.marks, query, &mut tables.lend());
     match found {
-        Ok(Some(answer)) if holds::<M>(day, query, answer, tables) => {
-            let (first, second) = answer.verdict.score;
-            Outcome::Best { first, second }
+        Ok(Some(answer)) if holds::<M>(day, query, answer, &tables.steps) => {
+            Ok(Found(Some(answer.verdict.score)))
         }
-        Ok(None) if tables.is_spoilt_behind(0) => Outcome::Nothing,
-        _ => Outcome::Wrong,
+        Ok(None) if is_nonsense_behind(&tables.steps, 0) => Ok(Found(None)),
+        _ => Err(Wrong),
     }
 }

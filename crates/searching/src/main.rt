@@ -11,23 +11,25 @@ mod best;
 mod day;
 mod tables;
 
-use anyhow::anyhow;
-use best::best;
-use day::{Day, number, numbers, opening, query, ride};
-use faults::Fault;
+use best::{Found, Wrong, best};
+use day::source_of;
+use heap_tables::{HeapTables, Lengths};
 use journeys::Query;
 use measures::{
     EarliestArrival, Fastest, FewestRides, LatestDeparture, LeastRiding, LeastWaiting, Trip,
 };
+use scripts::Day;
 use search::CheckedQuery;
 use sources::RecordSource;
 use std::io::{BufRead, BufReader};
-use tables::Tables;
+use tables::rubbish;
 
-fn print_fault(rt: &impl Print, fault: Fault) -> anyhow::Result<()> {
-    let report = fault.report();
-    let (number, layer, place) = (report.number, report.layer, report.place);
-    println!(rt; "no {number} {layer} {place}")?;
+// Prints what came of a search.
+fn print_outcome(rt: &impl Print, outcome: Result<Found, Wrong>) -> anyhow::Result<()> {
+    match outcome {
+        Ok(best) => print!(rt; "{best}")?,
+        Err(wrong) => print!(rt; "{wrong}")?,
+    }
     Ok(())
 }
 
@@ -42,15 +44,24 @@ fn print_best(
         begin: 1,
         riding: 0,
     };
-    let mut plain = Tables::new(rt.alloc(), day.events.len(), 0u32)?;
-    let mut trips = Tables::new(rt.alloc(), day.events.len(), trip)?;
-    let e = best::<EarliestArrival>(day, source, query, &mut plain);
-    let l = best::<LatestDeparture>(day, source, query, &mut plain);
-    let f = best::<Fastest>(day, source, query, &mut trips);
-    let s = best::<LeastRiding>(day, source, query, &mut plain);
-    let n = best::<FewestRides>(day, source, query, &mut plain);
-    let c = best::<LeastWaiting>(day, source, query, &mut plain);
-    println!(rt; "{e} {l} {f} {s} {n} {c}")?;
+    let lengths = Lengths::for_events(day.events.len());
+    let mut plain = HeapTables::new(rt.alloc(), lengths, rubbish(0u32))?;
+    let mut trips = HeapTables::new(rt.alloc(), lengths, rubbish(trip))?;
+    let outcomes = [
+        best::<EarliestArrival>(day, source, query, &mut plain),
+        best::<LatestDeparture>(day, source, query, &mut plain),
+        best::<Fastest>(day, source, query, &mut trips),
+        best::<LeastRiding>(day, source, query, &mut plain),
+        best::<FewestRides>(day, source, query, &mut plain),
+        best::<LeastWaiting>(day, source, query, &mut plain),
+    ];
+    for (place, outcome) in outcomes.into_iter().enumerate() {
+        if place > 0 {
+            print!(rt; " ")?;
+        }
+        print_outcome(rt, outcome)?;
+    }
+    println!(rt; "")?;
     Ok(())
 }
 
@@ -58,31 +69,23 @@ fn print_best(
 fn ask(rt: &HostRuntime, day: &Day, query: Query) -> anyhow::Result<()> {
     let checked = match CheckedQuery::new(query) {
         Ok(checked) => checked,
-        Err(fault) => return print_fault(rt, fault),
+        Err(fault) => return Ok(println!(rt; "{fault}")?),
     };
-    match day.source(rt.alloc())? {
+    match source_of(rt.alloc(), day)? {
         Ok(mut source) => print_best(rt, day, &mut source, checked),
-        Err(fault) => print_fault(rt, fault),
+        Err(fault) => Ok(println!(rt; "{fault}")?),
     }
-}
-
-fn answer(rt: &HostRuntime, day: &mut Day, line: &str) -> anyhow::Result<()> {
-    let numbers = numbers(rt.alloc(), line)?;
-    match line.as_bytes().first().copied() {
-        Some(b'd') => day.clear(),
-        Some(b'o') => day.events.push(opening(&numbers)?)?,
-        Some(b'r') => day.events.push(ride(&numbers)?)?,
-        Some(b'x') => day.mark(number(&numbers, 0)?)?,
-        Some(b'q') => ask(rt, day, query(&numbers)?)?,
-        _ => return Err(anyhow!("a line begins with no known letter")),
-    }
-    Ok(())
 }
 
 fn main(rt: HostRuntime) -> anyhow::Result<()> {
-    let mut day = Day::new(rt.alloc());
+    let mut day = Day {
+        events: Vec::new(rt.alloc()),
+        marks: Vec::new(rt.alloc()),
+    };
     for line in BufReader::new(rt.alloc(), rt.stdin())?.lines(rt.alloc()) {
-        answer(&rt, &mut day, line?.as_str())?;
+        if let Some(query) = day.take(line?.as_str().parse()?)? {
+            ask(&rt, &day, query)?;
+        }
     }
     Ok(())
 }

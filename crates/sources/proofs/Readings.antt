@@ -2,7 +2,7 @@
 use Rattle.std.proofs.Common.{◌≡◌, ℕ, ◌+◌, ◌-◌, ◌<◌, ◌≤◌, min, Bool, cond, List, [], ◌∷◌, ◌++◌, map, length, get_or, take, Some, None, count_by, Option, sym, refl, ap, ◌∙◌, ⊎_elim, arith}
 use Rattle.std.proofs.lemmas.List.{length-take, take_all}
 use Rattle.std.proofs.lemmas.List.Sums.{sum_by_more, count_by-le-length}
-use Rattle.std.proofs.lemmas.Option.{slice_get-get_or, slice_get_past}
+use Rattle.std.proofs.lemmas.Option.{slice_get-get_or, slice_get_past, slice_get_within}
 use Rattle.std.proofs.lemmas.Bool.{cases_lt}
 use Rattle.std.specs.List.{range_with_len, slice_get}
 use Rattle.records.specs.declared.event.Event.{Event}
@@ -17,8 +17,7 @@ pub record Midway (es : List Event) (r : Counts) (es' : List Event) (p : ℕ) : 
 
 -- a read that answers an event stands before the end
 pub before_end : (es : List Event) (p : ℕ) (e : Event) → Some e ≡ slice_get es p → p < length es
-before_end es p e h =
-    ⊎_elim (λ l. l) (λ l. let past = slice_get_past es p l in let z : ◌≡◌ {A = ℕ} 0 1 = cc in absurd (omega arith)) (cases_lt p (length es))
+before_end es p e h = slice_get_within es p e (sym h)
 
 -- and one that answers none, at the end
 pub at_end : (es : List Event) (p : ℕ) (d : Event) → None ≡ slice_get es p → length es ≤ p

@@ -6,28 +6,23 @@ use crate::source::Source;
 use records::Event;
 
 // How many events of each kind there are.
-#[derive(Clone, Copy, PartialEq, Eq, Debug)]
+#[derive(Clone, Copy, PartialEq, Eq, Debug, Default)]
 pub struct Counts {
     pub openings: usize,
     pub rides: usize,
 }
 
-// The counts with one event more.
-fn counted(counts: Counts, event: Event) -> Counts
-    requires { (counts.openings < 1024) × (counts.rides < 1024) }
-    ensures openings { result.openings ≡ counts.openings + (if is_opening event then 1 else 0) }
-    ensures rides { result.rides ≡ counts.rides + (if is_ride event then 1 else 0) }
-{
-    let Counts { openings, rides } = counts;
-    match event {
-        Event::Opening { .. } => Counts {
-            openings: openings + 1,
-            rides,
-        },
-        Event::Ride { .. } => Counts {
-            openings,
-            rides: rides + 1,
-        },
+impl Counts {
+    // Counts one event more.
+    fn count(&mut self, event: Event)
+        requires { (self.old.openings < 1024) × (self.old.rides < 1024) }
+        ensures openings { self.new.openings ≡ self.old.openings + (if is_opening event then 1 else 0) }
+        ensures rides { self.new.rides ≡ self.old.rides + (if is_ride event then 1 else 0) }
+    {
+        match event {
+            Event::Opening { .. } => self.openings += 1,
+            Event::Ride { .. } => self.rides += 1,
+        }
     }
 }
 
@@ -37,12 +32,9 @@ pub fn read_through<S: Source>(source: &mut S) -> Counts
     ensures repeats { Repeats (S.events source.old) (S.place source.old) }
 {
     source.rewind();
-    let mut counts = Counts {
-        openings: 0,
-        rides: 0,
-    };
+    let mut counts = Counts::default();
     while let Some(event) = source.next() {
-        counts = counted(counts, event);
+        counts.count(event);
     }
     counts
 }

@@ -9,16 +9,7 @@ use sources::{Counts, RecordSource, Source, read_through};
 // Room for one line more than a block may have.
 const ROOM: usize = 528;
 
-fn told(fault: Fault) -> (u8, u8, usize) {
-    let Report {
-        number,
-        layer,
-        place,
-    } = fault.report();
-    (number, layer, place)
-}
-
-// The record of a line.
+// The record of a line, whose six numbers are written out in a row.
 fn line(from: u8, to: u8, first: u32, duration: u16, interval: u16, rides: u16) -> [u8; 16] {
     let [f0, f1, f2, f3] = first.to_be_bytes();
     let [d0, d1] = duration.to_be_bytes();
@@ -27,52 +18,33 @@ fn line(from: u8, to: u8, first: u32, duration: u16, interval: u16, rides: u16) 
     [3, from, to, 0, f0, f1, f2, f3, d0, d1, i0, i1, r0, r1, 0, 0]
 }
 
-fn ride(from: u8, to: u8, departure: u32, duration: u16) -> Event {
-    Event::Ride {
-        from,
-        to,
-        departure,
-        duration,
-    }
-}
-
 fn count_of(openings: usize, rides: usize) -> Counts {
     Counts { openings, rides }
 }
 
-// Writes a record at a place, where there is room for it.
-fn place_row(bytes: &mut [u8], place: usize, row: &[u8; 16]) {
-    if place < 33 && bytes.len() == ROOM {
-        bytes[place * 16..place * 16 + 16].copy_from_slice(row);
-    }
+// How many rides the bytes have as lines, or what opening them meets; beside the like for blocks, by calls of other names.
+fn opened(bytes: &[u8]) -> Result<usize, Report> {
+    Ok(LineSource::open(bytes)?.size())
 }
 
-// What opening the bytes as lines meets; number 0 where they open, with the number of rides as place.
-fn opened(bytes: &[u8]) -> (u8, u8, usize) {
-    match LineSource::open(bytes) {
-        Ok(source) => (0, 0, source.size()),
-        Err(fault) => told(fault),
-    }
-}
-
-// Writes a record at each of 33 places.
+// Writes a record at every place.
 fn fill(bytes: &mut [u8], row: &[u8; 16]) {
-    for place in 0..33 {
-        place_row(bytes, place, row);
-    }
+    let (places, _) = bytes.as_chunks_mut::<16>();
+    places.fill(*row);
 }
 
 // Three records in a row.
 fn rows(first: [u8; 16], second: [u8; 16], third: [u8; 16]) -> [u8; ROOM] {
     let mut bytes = [0; ROOM];
-    place_row(&mut bytes, 0, &first);
-    place_row(&mut bytes, 1, &second);
-    place_row(&mut bytes, 2, &third);
+    let (places, _) = bytes.as_chunks_mut::<16>();
+    for (place, row) in places.iter_mut().zip([first, second, third]) {
+        *place = row;
+    }
     bytes
 }
 
 // What opening two lines meets.
-fn opened_two(first: [u8; 16], second: [u8; 16]) -> (u8, u8, usize) {
+fn opened_two(first: [u8; 16], second: [u8; 16]) -> Result<usize, Report> {
     opened(&rows(first, second, second)[0..32])
 }
 
@@ -109,12 +81,12 @@ mod tests {
         let mut source = LineSource::open(&three_lines()[0..48])?;
         assert_eq!(rt; source.size(), 6);
         let rides = [
-            ride(3, 4, 90, 5),
-            ride(1, 2, 100, 20),
-            ride(1, 2, 130, 20),
-            ride(2, 3, 130, 10),
-            ride(2, 3, 145, 10),
-            ride(1, 2, 160, 20),
+            Event::ride(3, 4, 90, 5),
+            Event::ride(1, 2, 100, 20),
+            Event::ride(1, 2, 130, 20),
+            Event::ride(2, 3, 130, 10),
+            Event::ride(2, 3, 145, 10),
+            Event::ride(1, 2, 160, 20),
         ];
         for event in rides {
             assert_eq!(rt; source.next(), Some(event));
@@ -122,8 +94,8 @@ mod tests {
         assert_eq!(rt; source.next(), None);
         assert_eq!(rt; source.next(), None);
         source.rewind();
-        assert_eq!(rt; source.next(), Some(ride(3, 4, 90, 5)));
-        assert_eq!(rt; source.next(), Some(ride(1, 2, 100, 20)));
+        assert_eq!(rt; source.next(), Some(Event::ride(3, 4, 90, 5)));
+        assert_eq!(rt; source.next(), Some(Event::ride(1, 2, 100, 20)));
         source.rewind();
         for event in rides {
             assert_eq!(rt; source.next(), Some(event));
@@ -141,21 +113,21 @@ mod tests {
         );
         let mut source = LineSource::open(&bytes[0..48])?;
         let rides = [
-            ride(9, 1, 60, 10),
-            ride(1, 3, 60, 30),
-            ride(9, 1, 70, 10),
-            ride(5, 2, 70, 20),
-            ride(1, 3, 70, 30),
+            Event::ride(9, 1, 60, 10),
+            Event::ride(1, 3, 60, 30),
+            Event::ride(9, 1, 70, 10),
+            Event::ride(5, 2, 70, 20),
+            Event::ride(1, 3, 70, 30),
         ];
         for event in rides {
             assert_eq!(rt; source.next(), Some(event));
         }
         assert_eq!(rt; source.next(), None);
         let mut single = LineSource::open(&bytes[16..32])?;
-        assert_eq!(rt; single.next(), Some(ride(5, 2, 70, 20)));
+        assert_eq!(rt; single.next(), Some(Event::ride(5, 2, 70, 20)));
         assert_eq!(rt; single.next(), None);
         single.rewind();
-        assert_eq!(rt; single.next(), Some(ride(5, 2, 70, 20)));
+        assert_eq!(rt; single.next(), Some(Event::ride(5, 2, 70, 20)));
         Ok(())
     }
 
@@ -163,15 +135,15 @@ mod tests {
     fn records_in_turn(rt: HostRuntime) -> Result<(), Fail> {
         let mut source = RecordSource::open(&three_records()[0..48])?;
         assert_eq!(rt; source.size(), 3);
-        assert_eq!(rt; source.next(), Some(ride(1, 2, 100, 20)));
+        assert_eq!(rt; source.next(), Some(Event::ride(1, 2, 100, 20)));
         source.rewind();
         let events = [
-            ride(1, 2, 100, 20),
+            Event::ride(1, 2, 100, 20),
             Event::Opening {
                 stop: 2,
                 minute: 125,
             },
-            ride(2, 3, 125, 30),
+            Event::ride(2, 3, 125, 30),
         ];
         for event in events {
             assert_eq!(rt; source.next(), Some(event));
@@ -184,11 +156,11 @@ mod tests {
     #[test]
     fn read_through_both_kinds(rt: HostRuntime) -> Result<(), Fail> {
         let mut records = RecordSource::open(&three_records()[0..48])?;
-        assert_eq!(rt; records.next(), Some(ride(1, 2, 100, 20)));
+        assert_eq!(rt; records.next(), Some(Event::ride(1, 2, 100, 20)));
         assert_eq!(rt; read_through(&mut records), count_of(1, 2));
         assert_eq!(rt; records.next(), None);
         let mut lines = LineSource::open(&three_lines()[0..48])?;
-        assert_eq!(rt; lines.next(), Some(ride(3, 4, 90, 5)));
+        assert_eq!(rt; lines.next(), Some(Event::ride(3, 4, 90, 5)));
         assert_eq!(rt; read_through(&mut lines), count_of(0, 6));
         assert_eq!(rt; lines.next(), None);
         let mut empty = RecordSource::open(&[])?;
@@ -199,45 +171,41 @@ mod tests {
     #[test]
     fn handed_back_in_a_refusal(rt: HostRuntime) -> Result<(), Fail> {
         let lines = LineSource::open(&three_lines()[0..48])?;
-        if let Err(refusal) = refused(lines) {
-            let (mut source, _) = refusal;
-            assert_eq!(rt; source.next(), Some(ride(3, 4, 90, 5)));
-        }
+        let (mut source, _) = refused(lines).err().ok_or("nothing is refused")?;
+        assert_eq!(rt; source.next(), Some(Event::ride(3, 4, 90, 5)));
         let records = RecordSource::open(&three_records()[0..48])?;
-        if let Err(refusal) = refused(records) {
-            let (mut source, _) = refusal;
-            assert_eq!(rt; source.next(), Some(ride(1, 2, 100, 20)));
-        }
+        let (mut source, _) = refused(records).err().ok_or("nothing is refused")?;
+        assert_eq!(rt; source.next(), Some(Event::ride(1, 2, 100, 20)));
         Ok(())
     }
 
     #[test]
     fn damaged_lines(rt: HostRuntime) {
         // Two bytes changed in three good lines, and the number, layer and place that opening them then meets.
-        let table: [((usize, u8), (usize, u8), (u8, u8, usize)); 22] = [
-            ((0, 3), (0, 3), (0, 0, 6)),
-            ((16, 2), (0, 3), (3, 2, 1)),
-            ((3, 1), (0, 3), (4, 2, 0)),
-            ((30, 1), (0, 3), (4, 2, 1)),
-            ((31, 1), (0, 3), (4, 2, 1)),
-            ((34, 3), (0, 3), (5, 2, 2)),
-            ((9, 0), (0, 3), (6, 2, 0)),
-            ((8, 5), (9, 160), (0, 0, 6)),
-            ((8, 5), (9, 161), (6, 2, 0)),
-            ((27, 0), (0, 3), (7, 2, 1)),
-            ((29, 0), (0, 3), (7, 2, 1)),
-            ((4, 1), (0, 3), (8, 2, 0)),
-            ((12, 4), (0, 3), (10, 3, 0)),
-            ((28, 4), (0, 3), (10, 3, 1)),
+        let table: [((usize, u8), (usize, u8), Result<usize, Report>); 22] = [
+            ((0, 3), (0, 3), Ok(6)),
+            ((16, 2), (0, 3), Err(Report::new(3, 2, 1))),
+            ((3, 1), (0, 3), Err(Report::new(4, 2, 0))),
+            ((30, 1), (0, 3), Err(Report::new(4, 2, 1))),
+            ((31, 1), (0, 3), Err(Report::new(4, 2, 1))),
+            ((34, 3), (0, 3), Err(Report::new(5, 2, 2))),
+            ((9, 0), (0, 3), Err(Report::new(6, 2, 0))),
+            ((8, 5), (9, 160), Ok(6)),
+            ((8, 5), (9, 161), Err(Report::new(6, 2, 0))),
+            ((27, 0), (0, 3), Err(Report::new(7, 2, 1))),
+            ((29, 0), (0, 3), Err(Report::new(7, 2, 1))),
+            ((4, 1), (0, 3), Err(Report::new(8, 2, 0))),
+            ((12, 4), (0, 3), Err(Report::new(10, 3, 0))),
+            ((28, 4), (0, 3), Err(Report::new(10, 3, 1))),
             // The first broken rule decides: kind, spare byte, stops, duration, repetition, time, number of rides.
-            ((0, 9), (3, 1), (3, 2, 0)),
-            ((3, 1), (2, 1), (4, 2, 0)),
-            ((2, 1), (9, 0), (5, 2, 0)),
-            ((9, 0), (11, 0), (6, 2, 0)),
-            ((13, 0), (4, 255), (7, 2, 0)),
-            ((4, 255), (12, 4), (8, 2, 0)),
-            ((12, 4), (16, 0), (10, 3, 0)),
-            ((32, 0), (31, 1), (4, 2, 1)),
+            ((0, 9), (3, 1), Err(Report::new(3, 2, 0))),
+            ((3, 1), (2, 1), Err(Report::new(4, 2, 0))),
+            ((2, 1), (9, 0), Err(Report::new(5, 2, 0))),
+            ((9, 0), (11, 0), Err(Report::new(6, 2, 0))),
+            ((13, 0), (4, 255), Err(Report::new(7, 2, 0))),
+            ((4, 255), (12, 4), Err(Report::new(8, 2, 0))),
+            ((12, 4), (16, 0), Err(Report::new(10, 3, 0))),
+            ((32, 0), (31, 1), Err(Report::new(4, 2, 1))),
         ];
         for ((at, byte), (also_at, also_byte), meets) in table {
             let mut bytes = three_lines();
@@ -253,33 +221,33 @@ mod tests {
         let one = line(1, 2, 0, 1, 1, 1);
         assert_eq!(rt;
             opened_two(line(1, 2, 0, 1_440, 975, 1_024), one),
-            (10, 3, 1)
+            Err(Report::new(10, 3, 1))
         );
         assert_eq!(rt;
             opened_two(line(1, 2, 0, 1_440, 975, 1_023), one),
-            (0, 0, 1_024)
+            Ok(1_024)
         );
-        assert_eq!(rt; opened_two(line(1, 2, 0, 1, 1, 1_025), one), (10, 3, 0));
         assert_eq!(rt;
-            opened_two(one, line(1, 2, 16_973, 1, 65_535, 16)),
-            (0, 0, 17)
+            opened_two(line(1, 2, 0, 1, 1, 1_025), one),
+            Err(Report::new(10, 3, 0))
         );
+        assert_eq!(rt; opened_two(one, line(1, 2, 16_973, 1, 65_535, 16)), Ok(17));
         assert_eq!(rt;
             opened_two(one, line(1, 2, 16_973, 1, 65_535, 17)),
-            (8, 2, 1)
+            Err(Report::new(8, 2, 1))
         );
-        assert_eq!(rt; opened_two(one, line(1, 2, 0, 1, 1, 65_535)), (10, 3, 1));
+        assert_eq!(rt;
+            opened_two(one, line(1, 2, 0, 1, 1, 65_535)),
+            Err(Report::new(10, 3, 1))
+        );
         assert_eq!(rt;
             opened_two(line(1, 2, 4_294_967_295, 1_440, 65_535, 65_535), one),
-            (8, 2, 0)
+            Err(Report::new(8, 2, 0))
         );
-        assert_eq!(rt;
-            opened_two(line(1, 2, 999_998, 1, 65_535, 1), one),
-            (0, 0, 2)
-        );
+        assert_eq!(rt; opened_two(line(1, 2, 999_998, 1, 65_535, 1), one), Ok(2));
         assert_eq!(rt;
             opened_two(line(1, 2, 999_999, 1, 65_535, 1), one),
-            (8, 2, 0)
+            Err(Report::new(8, 2, 0))
         );
     }
 
@@ -287,9 +255,9 @@ mod tests {
     fn full_blocks(rt: HostRuntime) -> Result<(), Fail> {
         let mut bytes = [0; ROOM];
         fill(&mut bytes, &line(7, 8, 60, 10, 3, 32));
-        assert_eq!(rt; opened(&bytes), (2, 1, 32));
-        assert_eq!(rt; opened(&bytes[0..513]), (1, 1, 32));
-        assert_eq!(rt; opened(&bytes[0..0]), (0, 0, 0));
+        assert_eq!(rt; opened(&bytes), Err(Report::new(2, 1, 32)));
+        assert_eq!(rt; opened(&bytes[0..513]), Err(Report::new(1, 1, 32)));
+        assert_eq!(rt; opened(&bytes[0..0]), Ok(0));
         let mut source = LineSource::open(&bytes[0..512])?;
         assert_eq!(rt; read_through(&mut source), count_of(0, 1_024));
         assert_eq!(rt; source.next(), None);
@@ -297,7 +265,7 @@ mod tests {
         for ride_of_line in 0..1_024 {
             assert_eq!(rt;
                 source.next(),
-                Some(ride(7, 8, 60 + ride_of_line / 32 * 3, 10))
+                Some(Event::ride(7, 8, 60 + ride_of_line / 32 * 3, 10))
             );
         }
         assert_eq!(rt; source.next(), None);

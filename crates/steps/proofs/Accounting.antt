@@ -1,10 +1,11 @@
 -- How board and queue go on accounting for the log.
-use Rattle.std.proofs.Common.{◌≡◌, ℕ, zero, suc, ◌<◌, ◌≤◌, min, Bool, true, false, cond, ◌||◌, ltb, ◌⊎◌, List, [], ◌∷◌, ◌++◌, length, get_or, set, Some, None, Option, sym, refl, ap, ◌∙◌, subst, inl, inr, ⊎_elim, arith}
+use Rattle.std.proofs.Common.{◌≡◌, ℕ, zero, suc, ◌<◌, ◌≤◌, Bool, true, false, cond, ◌||◌, ltb, ◌⊎◌, List, [], ◌∷◌, ◌++◌, length, get_or, set, Some, None, Option, sym, refl, ap, ◌∙◌, subst, inl, inr, ⊎_elim, arith}
 use Rattle.std.proofs.ByRecursion.{all-has, All-weaker, has_append_left, has_push, has_push_cases, has_shuffled}
-use Rattle.std.proofs.lemmas.List.{get_or-set_other, get_or-set_same, length-set, length-take, nil_from_length, set_past}
+use Rattle.std.proofs.lemmas.List.{get_or-set_other, get_or-set_same, length-set}
 use Rattle.std.proofs.lemmas.List.Sorted.{IsPermutation-sym}
 use Rattle.std.proofs.lemmas.Bool.{both_ways, cases_eq, cases_lt, lt-ltb}
 use Rattle.std.specs.List.{ContainsAt as Has}
+use Rattle.std.proofs.lemmas.Option.{none-some, same_Some}
 use Rattle.measures.specs.Measures.{Laws, Ops}
 use Rattle.queue.specs.Order.{Least}
 use Rattle.queue.specs.Queue.{Added, Seen, Taken, Taking, held}
@@ -13,8 +14,8 @@ use Rattle.steps.specs.declared.board.Standing.{Standing}
 use Rattle.steps.specs.declared.entry.Entry.{Entry}
 use Rattle.steps.specs.Accounts.{Accounts, Due, Later, Overtaken, Queued, StandingThere}
 use Rattle.steps.specs.Arrivals.{sooner}
-use Rattle.steps.proofs.Somes.{none_some, some_same}
 use Rattle.steps.specs.Boards.{bit, brought, brought_by, logged, preferred, slot_of, stands}
+use Rattle.steps.specs.Tables.{Contents, awaited}
 
 -- what is not sooner is not earlier
 pub not_earlier : (x y : Arrival) → sooner x y ≡ false → y.minute ≤ x.minute
@@ -31,18 +32,10 @@ least_later minute x xs h l =
 pub least_earlier : (minute : ℕ) (x y : Arrival) (xs : List Arrival) → y.minute ≤ minute → Least sooner x xs → Has xs y → x.minute ≤ minute
 least_earlier minute x y xs h l i = omega (arith, not_earlier y x (all-has (λ z. sooner z x ≡ false) xs y l.none_before i))
 
-pub none_later : (minute : ℕ) (queue : List Arrival) (used : ℕ) → min used (length queue) ≡ 0 → Later minute (held queue used)
-none_later minute queue used h = subst (Later minute) (sym (nil_from_length (held queue used) (length-take used queue ∙ h))) tt
-
 pub due_taken : (minute : ℕ) (queue : List Arrival) (used : ℕ) (x : Arrival) → Seen sooner queue used x → x.minute ≤ minute → (r : Option Arrival) (queue' : List Arrival) (used' : ℕ) → Taking sooner queue used r queue' used' → Due minute queue used r queue' used'
 due_taken minute queue used x s h (Some a) queue' used' t =
     (t, λ o. least_earlier minute a x (held queue used) h (t.least o) (s.least o).among)
 due_taken minute queue used x s h None queue' used' t = absurd (omega (arith, s.some, t.none))
-
--- an arrival whose stop lies beyond the board changes nothing
-pub brought_past : {L : Type 0} (m : Ops L) (log : List (Option (Entry L))) (board : List (Option (Standing L))) (a : Arrival) (e : Entry L) → logged log a.event a.called ≡ Some e → length board ≤ slot_of e.stop a.called → board ≡ brought m log board a
-brought_past m log board a e h l =
-    sym (set_past board (slot_of e.stop a.called) _ l) ∙ sym (ap (brought_by m board a) h)
 
 bit_small : (b : Bool) → bit b ≤ 1
 bit_small true = omega arith
@@ -94,11 +87,11 @@ module _ {L : Type 0} (m : Ops L) (laws : Laws m) where
       by_test true = inr refl
       by_test false = inl refl
 
-module _ {L : Type 0} (m : Ops L) (laws : Laws m) (log : List (Option (Entry L))) (board : List (Option (Standing L))) (queue : List Arrival) (used k t minute : ℕ) (accounts : Accounts m log board queue used k t) (later : t ≤ minute) where
-  standing_later : (s : ℕ) (c : Bool) (x : Standing L) → StandingThere m log k t s c x → StandingThere m log k minute s c x
+module _ {L : Type 0} (m : Ops L) (laws : Laws m) (tables : Contents L) (k t minute : ℕ) (accounts : Accounts m tables k t) (later : t ≤ minute) where
+  standing_later : (s : ℕ) (c : Bool) (x : Standing L) → StandingThere m tables.log k t s c x → StandingThere m tables.log k minute s c x
   standing_later s c x h = (h.0, (h.1.0, h.1.1, h.1.2, h.1.3, omega (arith, h.1.4)))
 
-  pub accounts_later : Accounts m log board queue used k minute
+  pub accounts_later : Accounts m tables k minute
   accounts_later =
       record {
         heaped = accounts.heaped;
@@ -110,53 +103,53 @@ module _ {L : Type 0} (m : Ops L) (laws : Laws m) (log : List (Option (Entry L))
       }
 
 -- one due arrival taken from the queue and brought to the board
-module _ {L : Type 0} (m : Ops L) (laws : Laws m) (log : List (Option (Entry L))) (board : List (Option (Standing L))) (queue : List Arrival) (used k t minute : ℕ) (accounts : Accounts m log board queue used k t) (later : t ≤ minute) (a : Arrival) (queue' : List Arrival) (used' : ℕ) (taken : Taken sooner queue used a queue' used') (due : a.minute ≤ minute) where
-  was_held : (b : Arrival) → Has (held queue' used') b → Has (held queue used) b
-  was_held b h = has_shuffled (a ∷ held queue' used') (held queue used) b (IsPermutation-sym _ _ taken.bag) (has_behind a b (held queue' used') h)
+module _ {L : Type 0} (m : Ops L) (laws : Laws m) (tables : Contents L) (k t minute : ℕ) (accounts : Accounts m tables k t) (later : t ≤ minute) (a : Arrival) (queue' : List Arrival) (used' : ℕ) (taken : Taken sooner tables.queue tables.used a queue' used') (due : a.minute ≤ minute) where
+  was_held : (b : Arrival) → Has (held queue' used') b → Has (awaited tables) b
+  was_held b h = has_shuffled (a ∷ held queue' used') (awaited tables) b (IsPermutation-sym _ _ taken.bag) (has_behind a b (held queue' used') h)
 
-  its_entry : Queued m log k a
-  its_entry = accounts.queued a (has_shuffled (a ∷ held queue' used') (held queue used) a (IsPermutation-sym _ _ taken.bag) (has_front a (held queue' used')))
+  its_entry : Queued m tables.log k a
+  its_entry = accounts.queued a (has_shuffled (a ∷ held queue' used') (awaited tables) a (IsPermutation-sym _ _ taken.bag) (has_front a (held queue' used')))
 
-module _ {L : Type 0} (m : Ops L) (laws : Laws m) (log : List (Option (Entry L))) (board : List (Option (Standing L))) (queue : List Arrival) (used k t minute : ℕ) (accounts : Accounts m log board queue used k t) (later : t ≤ minute) (a : Arrival) (queue' : List Arrival) (used' : ℕ) (taken : Taken sooner queue used a queue' used') (due : a.minute ≤ minute) (entry : Entry L) (logged_entry : logged log a.event a.called ≡ Some entry) (ends : entry.end ≡ a.minute) (before : a.event < k) where
+module _ {L : Type 0} (m : Ops L) (laws : Laws m) (tables : Contents L) (k t minute : ℕ) (accounts : Accounts m tables k t) (later : t ≤ minute) (a : Arrival) (queue' : List Arrival) (used' : ℕ) (taken : Taken sooner tables.queue tables.used a queue' used') (due : a.minute ≤ minute) (entry : Entry L) (logged_entry : logged tables.log a.stage.event a.stage.called ≡ Some entry) (ends : entry.end ≡ a.minute) (before : a.stage.event < k) where
   abbrev at : ℕ
-  at = slot_of entry.stop a.called
+  at = slot_of entry.stop a.stage.called
 
   abbrev comes : Standing L
-  comes = record { label = entry.label; event = a.event }
+  comes = record { label = entry.label; event = a.stage.event }
 
   abbrev chosen : Standing L
-  chosen = preferred m (stands board entry.stop a.called) comes
+  chosen = preferred m (stands tables.board entry.stop a.stage.called) comes
 
   abbrev board' : List (Option (Standing L))
-  board' = set board at (Some chosen)
+  board' = set tables.board at (Some chosen)
 
-  at_within : at < length board
-  at_within = omega (arith, (accounts.near a.event a.called entry logged_entry).1, accounts.wide, bit_small a.called)
+  at_within : at < length tables.board
+  at_within = omega (arith, (accounts.near a.stage.event a.stage.called entry logged_entry).1, accounts.wide, bit_small a.stage.called)
 
   here : (s : ℕ) (c : Bool) → slot_of s c ≡ at → stands board' s c ≡ Some chosen
-  here s c e = ap (λ i. get_or board' i None) e ∙ get_or-set_same board at (Some chosen) None at_within
+  here s c e = ap (λ i. get_or board' i None) e ∙ get_or-set_same tables.board at (Some chosen) None at_within
 
-  elsewhere : (s : ℕ) (c : Bool) → (slot_of s c ≡ at → ⊥) → stands board' s c ≡ stands board s c
-  elsewhere s c n = get_or-set_other board at (slot_of s c) (Some chosen) None n
+  elsewhere : (s : ℕ) (c : Bool) → (slot_of s c ≡ at → ⊥) → stands board' s c ≡ stands tables.board s c
+  elsewhere s c n = get_or-set_other tables.board at (slot_of s c) (Some chosen) None n
 
-  chosen_there : StandingThere m log k minute entry.stop a.called chosen
+  chosen_there : StandingThere m tables.log k minute entry.stop a.stage.called chosen
   chosen_there =
       ⊎_elim
-      (λ e. subst (StandingThere m log k minute entry.stop a.called) (sym e) (before, (entry, logged_entry, refl, refl, omega arith)))
+      (λ e. subst (StandingThere m tables.log k minute entry.stop a.stage.called) (sym e) (before, (entry, logged_entry, refl, refl, omega arith)))
       (λ e.
-      standing_later m laws log board queue used k t minute accounts later entry.stop a.called chosen
-      (accounts.standing entry.stop a.called chosen (accounts.near a.event a.called entry logged_entry).1 e))
-      (preferred_either m laws (stands board entry.stop a.called) comes)
+      standing_later m laws tables k t minute accounts later entry.stop a.stage.called chosen
+      (accounts.standing entry.stop a.stage.called chosen (accounts.near a.stage.event a.stage.called entry logged_entry).1 e))
+      (preferred_either m laws (stands tables.board entry.stop a.stage.called) comes)
 
   -- what stood at a slot is stood for by one that is no worse
-  still_over : (e : Entry L) (c : Bool) → Overtaken m log board t e c → Overtaken m log board' minute e c
+  still_over : (e : Entry L) (c : Bool) → Overtaken m tables.log tables.board t e c → Overtaken m tables.log board' minute e c
   still_over e c o =
       let x = o.1.0 in (
         omega (arith, o.0),
         ⊎_elim
             (λ i.
-            let z = slot_stop e.stop entry.stop c a.called i in
-            let s : stands board entry.stop a.called ≡ Some x = ap (λ j. get_or board j None) (sym i) ∙ o.1.1 in
+            let z = slot_stop e.stop entry.stop c a.stage.called i in
+            let s : stands tables.board entry.stop a.stage.called ≡ Some x = ap (λ j. get_or tables.board j None) (sym i) ∙ o.1.1 in
             let b : m.no_worse chosen.label x.label ≡ true = subst (λ y. m.no_worse (preferred m y comes).label x.label ≡ true) (sym s) (preferred-stands m laws x comes) in
             (chosen, here e.stop c i, laws.transitive chosen.label x.label e.label b o.1.2))
             (λ n. (x, elsewhere e.stop c n ∙ o.1.1, o.1.2))
@@ -164,86 +157,94 @@ module _ {L : Type 0} (m : Ops L) (laws : Laws m) (log : List (Option (Entry L))
       )
 
   -- the arrival's own entry is overtaken now
-  own_over : (e : Entry L) (j : ℕ) (c : Bool) → logged log j c ≡ Some e → a ≡ record { minute = e.end; event = j; called = c } → Overtaken m log board' minute e c
+  own_over : (e : Entry L) (j : ℕ) (c : Bool) → logged tables.log j c ≡ Some e → a ≡ record { minute = e.end; stage = record { event = j; called = c } } → Overtaken m tables.log board' minute e c
   own_over e j c h i =
-      let q : logged log a.event a.called ≡ Some e = ap (λ x. logged log x.event x.called) i ∙ h in
-      let same : entry ≡ e = some_same (sym logged_entry ∙ q) in
-      let c' : a.called ≡ c = ap (λ x. x.called) i in (
+      let q : logged tables.log a.stage.event a.stage.called ≡ Some e = ap (λ x. logged tables.log x.stage.event x.stage.called) i ∙ h in
+      let same : entry ≡ e = same_Some _ _ (sym logged_entry ∙ q) in
+      let c' : a.stage.called ≡ c = ap (λ x. x.stage.called) i in (
         omega (arith, ap (λ x. x.minute) i),
         (
           chosen,
           here e.stop c (ap (λ x. slot_of x.stop c) (sym same) ∙ ap (slot_of entry.stop) (sym c')),
-          subst (λ x. m.no_worse chosen.label x.label ≡ true) same (preferred_comes m laws (stands board entry.stop a.called) comes),
+          subst (λ x. m.no_worse chosen.label x.label ≡ true) same (preferred_comes m laws (stands tables.board entry.stop a.stage.called) comes),
         ),
       )
 
-  accounts_brought : Accounts m log board' queue' used' k minute
+  accounts_brought : Accounts m (record tables { board = board'; queue = queue'; used = used' }) k minute
   accounts_brought =
       record {
         heaped = taken.heaped accounts.heaped;
-        wide = omega (arith, length-set board at (Some chosen), accounts.wide);
+        wide = omega (arith, length-set tables.board at (Some chosen), accounts.wide);
         near = accounts.near;
-        queued = λ b h. accounts.queued b (was_held m laws log board queue used k t minute accounts later a queue' used' taken due b h);
+        queued = λ b h. accounts.queued b (was_held m laws tables k t minute accounts later a queue' used' taken due b h);
         standing =
             λ s c x l h.
             ⊎_elim
             (λ i.
-            let z = slot_stop s entry.stop c a.called i in
-            let y : chosen ≡ x = some_same (sym (here s c i) ∙ h) in
-            subst (StandingThere m log k minute s c) y
-            (subst (λ v. StandingThere m log k minute v c chosen) (sym z.0) (subst (λ v. StandingThere m log k minute entry.stop v chosen) (sym z.1) chosen_there)))
-            (λ n. standing_later m laws log board queue used k t minute accounts later s c x (accounts.standing s c x l (sym (elsewhere s c n) ∙ h)))
+            let z = slot_stop s entry.stop c a.stage.called i in
+            let y : chosen ≡ x = same_Some _ _ (sym (here s c i) ∙ h) in
+            subst (StandingThere m tables.log k minute s c) y
+            (subst (λ v. StandingThere m tables.log k minute v c chosen) (sym z.0) (subst (λ v. StandingThere m tables.log k minute entry.stop v chosen) (sym z.1) chosen_there)))
+            (λ n. standing_later m laws tables k t minute accounts later s c x (accounts.standing s c x l (sym (elsewhere s c n) ∙ h)))
             (cases_eq (slot_of s c) at);
         covered =
             λ j c e h.
             ⊎_elim
             (λ i.
             ⊎_elim (λ z. inr (own_over e j c h z)) (λ b. inl b)
-            (has_cases a _ (held queue' used') (has_shuffled (held queue used) (a ∷ held queue' used') _ taken.bag i)))
+            (has_cases a _ (held queue' used') (has_shuffled (awaited tables) (a ∷ held queue' used') _ taken.bag i)))
             (λ o. inr (still_over e c o))
             (accounts.covered j c e h);
       }
 
-  brought_accounts : Accounts m log (brought m log board a) queue' used' k minute
-  brought_accounts = subst (λ b. Accounts m log b queue' used' k minute) (sym (ap (brought_by m board a) logged_entry)) accounts_brought
+  brought_accounts : Accounts m (record tables { board = brought m tables.log tables.board a; queue = queue'; used = used' }) k minute
+  brought_accounts = subst (λ b. Accounts m (record tables { board = b; queue = queue'; used = used' }) k minute) (sym (ap (brought_by m tables.board a) logged_entry)) accounts_brought
 
-module _ {L : Type 0} (m : Ops L) (laws : Laws m) (log : List (Option (Entry L))) (board : List (Option (Standing L))) (queue : List Arrival) (used k t minute : ℕ) (accounts : Accounts m log board queue used k t) (later : t ≤ minute) (a : Arrival) (queue' : List Arrival) (used' : ℕ) (taken : Taken sooner queue used a queue' used') (due : a.minute ≤ minute) where
-  pub accounts_drained : Accounts m log (brought m log board a) queue' used' k minute
-  accounts_drained =
-      let i = its_entry m laws log board queue used k t minute accounts later a queue' used' taken due in
-      brought_accounts m laws log board queue used k t minute accounts later a queue' used' taken due i.1.0 i.1.1 i.1.2 i.0
+module _ {L : Type 0} (m : Ops L) (laws : Laws m) (tables : Contents L) (k t minute : ℕ) (accounts : Accounts m tables k t) (later : t ≤ minute) (a : Arrival) (queue' : List Arrival) (used' : ℕ) (taken : Taken sooner tables.queue tables.used a queue' used') (due : a.minute ≤ minute) where
+  pub accounts_drained : (after : Contents L) → after ≡ record tables { board = brought m tables.log tables.board a; queue = queue'; used = used' } → Accounts m after k minute
+  accounts_drained after is =
+      let i = its_entry m laws tables k t minute accounts later a queue' used' taken due in
+      subst (λ x. Accounts m x k minute) (sym is)
+      (brought_accounts m laws tables k t minute accounts later a queue' used' taken due i.1.0 i.1.1 i.1.2 i.0)
+
+-- where nothing is due the tables stay as they are
+pub accounts_still : {L : Type 0} (m : Ops L) (tables : Contents L) (k minute : ℕ) (queue' : List Arrival) (used' : ℕ) → Due minute tables.queue tables.used None queue' used' → Accounts m tables k minute → Accounts m (record tables { queue = queue'; used = used' }) k minute × Later minute (held queue' used')
+accounts_still m tables k minute queue' used' (queue, used, late) accounts =
+    let same : record tables { queue = queue'; used = used' } ≡ tables =
+    ap (λ x. record tables { queue = x; used = used' }) queue ∙ ap (λ n. record tables { used = n }) used in
+    subst (λ x. Accounts m x k minute × Later minute (awaited x)) (sym same) (accounts, late accounts.heaped)
 
 -- an entry is written for an event that had none, and its arrival is awaited
-module _ {L : Type 0} (m : Ops L) (log : List (Option (Entry L))) (board : List (Option (Standing L))) (queue : List Arrival) (used k t : ℕ) (accounts : Accounts m log board queue used k t) (i : ℕ) (c : Bool) (e : Entry L) (queue' : List Arrival) (used' : ℕ) (near : i < k) (stop : e.stop < 256) (within : slot_of i c < length log) (none : logged log i c ≡ None) (added : Added sooner queue used (record { minute = e.end; event = i; called = c }) queue' used') where
+module _ {L : Type 0} (m : Ops L) (tables : Contents L) (k t : ℕ) (accounts : Accounts m tables k t) (i : ℕ) (c : Bool) (e : Entry L) (queue' : List Arrival) (used' : ℕ) (near : i < k) (stop : e.stop < 256) (within : slot_of i c < length tables.log) (none : logged tables.log i c ≡ None) (added : Added sooner tables.queue tables.used (record { minute = e.end; stage = record { event = i; called = c } }) queue' used') where
   abbrev log' : List (Option (Entry L))
-  log' = set log (slot_of i c) (Some e)
+  log' = set tables.log (slot_of i c) (Some e)
 
   abbrev arrival : Arrival
-  arrival = record { minute = e.end; event = i; called = c }
+  arrival = record { minute = e.end; stage = record { event = i; called = c } }
 
   written : (j : ℕ) (b : Bool) → slot_of j b ≡ slot_of i c → logged log' j b ≡ Some e
-  written j b h = ap (λ x. get_or log' x None) h ∙ get_or-set_same log (slot_of i c) (Some e) None within
+  written j b h = ap (λ x. get_or log' x None) h ∙ get_or-set_same tables.log (slot_of i c) (Some e) None within
 
-  other : (j : ℕ) (b : Bool) → (slot_of j b ≡ slot_of i c → ⊥) → logged log' j b ≡ logged log j b
-  other j b n = get_or-set_other log (slot_of i c) (slot_of j b) (Some e) None n
+  other : (j : ℕ) (b : Bool) → (slot_of j b ≡ slot_of i c → ⊥) → logged log' j b ≡ logged tables.log j b
+  other j b n = get_or-set_other tables.log (slot_of i c) (slot_of j b) (Some e) None n
 
   -- an entry that was there is there still
-  kept : (j : ℕ) (b : Bool) (x : Entry L) → logged log j b ≡ Some x → logged log' j b ≡ Some x
+  kept : (j : ℕ) (b : Bool) (x : Entry L) → logged tables.log j b ≡ Some x → logged log' j b ≡ Some x
   kept j b x h =
       ⊎_elim
-      (λ s. absurd (none_some (sym (sym h ∙ ap (λ z. get_or log z None) s ∙ none))))
+      (λ s. absurd (none-some _ (sym (sym h ∙ ap (λ z. get_or tables.log z None) s ∙ none))))
       (λ n. other j b n ∙ h)
       (cases_eq (slot_of j b) (slot_of i c))
 
   -- an entry that is there now was there, or is the new one
-  whence : (j : ℕ) (b : Bool) (x : Entry L) → logged log' j b ≡ Some x → ((j ≡ i) × (b ≡ c) × (e ≡ x)) ⊎ (logged log j b ≡ Some x)
+  whence : (j : ℕ) (b : Bool) (x : Entry L) → logged log' j b ≡ Some x → ((j ≡ i) × (b ≡ c) × (e ≡ x)) ⊎ (logged tables.log j b ≡ Some x)
   whence j b x h =
       ⊎_elim
-      (λ s. let z = slot_stop j i b c s in inl (z.0, z.1, some_same (sym (written j b s) ∙ h)))
+      (λ s. let z = slot_stop j i b c s in inl (z.0, z.1, same_Some _ _ (sym (written j b s) ∙ h)))
       (λ n. inr (sym (other j b n) ∙ h))
       (cases_eq (slot_of j b) (slot_of i c))
 
-  pub accounts_noted : Accounts m log' board queue' used' k t
+  pub accounts_noted : Accounts m (record tables { log = log'; queue = queue'; used = used' }) k t
   accounts_noted =
       record {
         heaped = added.heaped accounts.heaped;
@@ -254,9 +255,9 @@ module _ {L : Type 0} (m : Ops L) (log : List (Option (Entry L))) (board : List 
         queued =
             λ a h.
             ⊎_elim
-            (λ o. let q = accounts.queued a o in (q.0, (q.1.0, kept a.event a.called q.1.0 q.1.1, q.1.2)))
+            (λ o. let q = accounts.queued a o in (q.0, (q.1.0, kept a.stage.event a.stage.called q.1.0 q.1.1, q.1.2)))
             (λ z. subst (Queued m log' k) z (near, (e, written i c refl, refl)))
-            (has_push_cases (held queue used) arrival a (has_shuffled (held queue' used') (held queue used ++ arrival ∷ []) a (IsPermutation-sym _ _ added.bag) h));
+            (has_push_cases (awaited tables) arrival a (has_shuffled (held queue' used') (awaited tables ++ arrival ∷ []) a (IsPermutation-sym _ _ added.bag) h));
         standing =
             λ s b x l h. let o = accounts.standing s b x l h in (o.0, (o.1.0, kept x.event b o.1.0 o.1.1, o.1.2, o.1.3, o.1.4));
         covered =
@@ -265,17 +266,17 @@ module _ {L : Type 0} (m : Ops L) (log : List (Option (Entry L))) (board : List 
             (λ z.
             inl
             (subst (Has (held queue' used')) (same_arrival x j b z)
-            (has_shuffled (held queue used ++ arrival ∷ []) (held queue' used') arrival added.bag (has_push (held queue used) arrival))))
+            (has_shuffled (awaited tables ++ arrival ∷ []) (held queue' used') arrival added.bag (has_push (awaited tables) arrival))))
             (λ o.
             ⊎_elim
-            (λ q. inl (has_shuffled (held queue used ++ arrival ∷ []) (held queue' used') _ added.bag (has_append_left (held queue used) (arrival ∷ []) _ q)))
+            (λ q. inl (has_shuffled (awaited tables ++ arrival ∷ []) (held queue' used') _ added.bag (has_append_left (awaited tables) (arrival ∷ []) _ q)))
             (λ r. inr r)
             (accounts.covered j b x o))
             (whence j b x h);
       }
     where
-      same_arrival : (x : Entry L) (j : ℕ) (b : Bool) → (j ≡ i) × (b ≡ c) × (e ≡ x) → arrival ≡ record { minute = x.end; event = j; called = b }
+      same_arrival : (x : Entry L) (j : ℕ) (b : Bool) → (j ≡ i) × (b ≡ c) × (e ≡ x) → arrival ≡ record { minute = x.end; stage = record { event = j; called = b } }
       same_arrival x j b z = ap (made e.end i) (sym z.1) ∙ ap (λ n. made e.end n b) (sym z.0) ∙ ap (λ y. made y.end j b) z.2
         where
           made : ℕ → ℕ → Bool → Arrival
-          made a d f = record { minute = a; event = d; called = f }
+          made a d f = record { minute = a; stage = record { event = d; called = f } }

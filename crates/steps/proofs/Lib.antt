@@ -1,4 +1,3 @@
 pub mod Accounting
 pub mod Entries
-pub mod Somes
 pub mod Stepping

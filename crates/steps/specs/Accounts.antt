@@ -4,10 +4,9 @@
 --     Queued log k a       the arrival a is that of an entry for an event before k
 --     StandingThere ..     x is the label of an entry for an event before k that leaves its traveller at stop s by t
 --     Overtaken ..         the entry e is ready by t, and who stands at its stop is no worse
---     Accounts m log board queue used k t
---                          heaped: the queue is in heap order; wide: the board has a slot for each stop and
---                          call state; near: entries are for events before k; queued, standing: what queue and
---                          board hold are labels of entries; covered: every entry is awaited still, or overtaken
+--     Accounts m w k t     with w in the tables: heaped: the queue is in heap order; wide: the board has a slot for each
+--                          stop and call state; near: entries are for events before k; queued, standing: what queue
+--                          and board hold are labels of entries; covered: every entry is awaited still, or overtaken
 use Rattle.std.specs.Prelude.{◌≡◌, ℕ, ◌<◌, ◌≤◌, Bool, true, ◌⊎◌, List, length, Some, None, Option}
 use Rattle.std.specs.List.{ContainsAt as Has, AllByRecursion}
 use Rattle.measures.specs.Measures.{Ops}
@@ -18,6 +17,7 @@ use Rattle.steps.specs.declared.board.Standing.{Standing}
 use Rattle.steps.specs.declared.entry.Entry.{Entry}
 use Rattle.steps.specs.Arrivals.{sooner}
 use Rattle.steps.specs.Boards.{logged, stands}
+use Rattle.steps.specs.Tables.{Contents, awaited}
 
 abbrev pub Later : ℕ → List Arrival → Type 0
 Later minute xs = AllByRecursion (λ a. minute < a.minute) xs
@@ -31,7 +31,7 @@ Due minute queue used None queue' used' =
 
 module _ {L : Type 0} (m : Ops L) (log : List (Option (Entry L))) where
   abbrev pub Queued : ℕ → Arrival → Type 0
-  Queued k a = (a.event < k) × ((e : Entry L) × (logged log a.event a.called ≡ Some e) × (e.end ≡ a.minute))
+  Queued k a = (a.stage.event < k) × ((e : Entry L) × (logged log a.stage.event a.stage.called ≡ Some e) × (e.end ≡ a.minute))
 
   abbrev pub StandingThere : ℕ → ℕ → ℕ → Bool → Standing L → Type 0
   StandingThere k t s c x =
@@ -40,10 +40,10 @@ module _ {L : Type 0} (m : Ops L) (log : List (Option (Entry L))) where
   abbrev pub Overtaken : List (Option (Standing L)) → ℕ → Entry L → Bool → Type 0
   Overtaken board t e c = (e.end ≤ t) × ((x : Standing L) × (stands board e.stop c ≡ Some x) × (m.no_worse x.label e.label ≡ true))
 
-  pub record Accounts (board : List (Option (Standing L))) (queue : List Arrival) (used k t : ℕ) : Type 0 where
-    pub heaped : Heaped sooner (held queue used)
-    pub wide : 512 ≤ length board
-    pub near : (j : ℕ) (c : Bool) (e : Entry L) → logged log j c ≡ Some e → (j < k) × (e.stop < 256)
-    pub queued : (a : Arrival) → Has (held queue used) a → Queued k a
-    pub standing : (s : ℕ) (c : Bool) (x : Standing L) → s < 256 → stands board s c ≡ Some x → StandingThere k t s c x
-    pub covered : (j : ℕ) (c : Bool) (e : Entry L) → logged log j c ≡ Some e → Has (held queue used) (record { minute = e.end; event = j; called = c }) ⊎ Overtaken board t e c
+pub record Accounts {L : Type 0} (m : Ops L) (w : Contents L) (k t : ℕ) : Type 0 where
+  pub heaped : Heaped sooner (awaited w)
+  pub wide : 512 ≤ length w.board
+  pub near : (j : ℕ) (c : Bool) (e : Entry L) → logged w.log j c ≡ Some e → (j < k) × (e.stop < 256)
+  pub queued : (a : Arrival) → Has (awaited w) a → Queued m w.log k a
+  pub standing : (s : ℕ) (c : Bool) (x : Standing L) → s < 256 → stands w.board s c ≡ Some x → StandingThere m w.log k t s c x
+  pub covered : (j : ℕ) (c : Bool) (e : Entry L) → logged w.log j c ≡ Some e → Has (awaited w) (record { minute = e.end; stage = record { event = j; called = c } }) ⊎ Overtaken m w.log w.board t e c

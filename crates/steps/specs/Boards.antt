@@ -30,7 +30,7 @@ preferred m (Some y) x = cond (m.no_worse y.label x.label) y x
 abbrev pub brought_by : {L : Type 0} → Ops L → List (Option (Standing L)) → Arrival → Option (Entry L) → List (Option (Standing L))
 brought_by m board a None = board
 brought_by m board a (Some e) =
-    slice_set board (slot_of e.stop a.called) (Some (preferred m (stands board e.stop a.called) (record { label = e.label; event = a.event })))
+    slice_set board (slot_of e.stop a.stage.called) (Some (preferred m (stands board e.stop a.stage.called) (record { label = e.label; event = a.stage.event })))
 
 abbrev pub brought : {L : Type 0} → Ops L → List (Option (Entry L)) → List (Option (Standing L)) → Arrival → List (Option (Standing L))
-brought m log board a = brought_by m board a (logged log a.event a.called)
+brought m log board a = brought_by m board a (logged log a.stage.event a.stage.called)

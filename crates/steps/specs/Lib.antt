@@ -3,5 +3,6 @@ pub mod Arrivals
 pub mod Boards
 pub mod Entering
 pub mod Standing
+pub mod Tables
 pub mod Views
 pub mod Orders

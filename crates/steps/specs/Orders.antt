@@ -41,16 +41,16 @@ module _ (a : Arrival → ℕ) (B : Arrival → Arrival → Bool) where
       (not_before y z k))
       (not_before x y h)
 
-called_asymmetric : (x y : Arrival) → (not x.called && y.called) ≡ true → (not y.called && x.called) ≡ false
+called_asymmetric : (x y : Arrival) → (not x.stage.called && y.stage.called) ≡ true → (not y.stage.called && x.stage.called) ≡ false
 called_asymmetric x y h = grind (arith, nat_tests)
 
-called_cotransitive : (x y z : Arrival) → (not x.called && y.called) ≡ false → (not y.called && z.called) ≡ false → (not x.called && z.called) ≡ false
+called_cotransitive : (x y z : Arrival) → (not x.stage.called && y.stage.called) ≡ false → (not y.stage.called && z.stage.called) ≡ false → (not x.stage.called && z.stage.called) ≡ false
 called_cotransitive x y z h k = grind (arith, nat_tests)
 
 pub sooner_asymmetric : (x y : Arrival) → sooner x y ≡ true → sooner y x ≡ false
 sooner_asymmetric =
-    by_first_asymmetric (λ a. a.minute) _ (by_first_asymmetric (λ a. a.event) _ called_asymmetric)
+    by_first_asymmetric (λ a. a.minute) _ (by_first_asymmetric (λ a. a.stage.event) _ called_asymmetric)
 
 pub sooner_cotransitive : (x y z : Arrival) → sooner x y ≡ false → sooner y z ≡ false → sooner x z ≡ false
 sooner_cotransitive =
-    by_first_cotransitive (λ a. a.minute) _ (by_first_cotransitive (λ a. a.event) _ called_cotransitive)
+    by_first_cotransitive (λ a. a.minute) _ (by_first_cotransitive (λ a. a.stage.event) _ called_cotransitive)

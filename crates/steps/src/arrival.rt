@@ -2,17 +2,17 @@
 ghost use Rattle.steps.specs.Arrivals.{sooner};
 ghost use Rattle.steps.specs.Orders.{sooner_asymmetric, sooner_cotransitive};
 
+use crate::entry::Stage;
 use queue::Precedence;
 
-// The minute in which an event leaves its traveller ready, the event's number, and whether the call was made by then.
-#[derive(Clone, Copy)]
+// The minute in which a stage leaves its traveller ready. They are ordered by minute, then by event number, then without a
+// call first.
+#[derive(Clone, Copy, PartialEq, Eq, PartialOrd, Ord, Debug, Default)]
 pub struct Arrival {
     pub minute: u32,
-    pub event: usize,
-    pub called: bool,
+    pub stage: Stage,
 }
 
-// By minute, then by event number, then without a call first.
 impl Precedence for Arrival {
     ghost before = { sooner };
 
@@ -21,12 +21,6 @@ impl Precedence for Arrival {
     ghost cotransitive = { sooner_cotransitive };
 
     fn precedes(&self, other: &Arrival) -> bool {
-        if self.minute != other.minute {
-            return self.minute < other.minute;
-        }
-        if self.event != other.event {
-            return self.event < other.event;
-        }
-        !self.called && other.called
+        self < other
     }
 }

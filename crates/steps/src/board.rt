@@ -1,14 +1,26 @@
 // The board: for each stop and call state the best label that stands ready there.
 ghost use Rattle.std.specs.Prelude.{◌≡◌, ◌<◌, length, Some, None, slice_index_or, slice_set};
-ghost use Rattle.steps.specs.Boards.{preferred};
+ghost use Rattle.steps.specs.Boards.{preferred, stands};
 
 use measures::Measure;
+use records::Stop;
 
 // A label that stands ready at a stop, and the event that brought it there.
-#[derive(Clone, Copy)]
+#[derive(Clone, Copy, PartialEq, Eq, Debug)]
 pub struct Standing<L> {
     pub label: L,
     pub event: usize,
+}
+
+// Who stands ready at a stop in a call state.
+pub(crate) fn standing_at<L: Copy>(
+    board: &[Option<Standing<L>>],
+    stop: Stop,
+    called: bool,
+) -> Option<Standing<L>>
+    ensures { result ≡ stands board.now stop called }
+{
+    *board.get(usize::from(stop) * 2 + usize::from(called))?
 }
 
 // Who is to stand ready: the one that comes, unless the one that stands there is no worse.
@@ -18,16 +30,9 @@ fn prefer<M: Measure>(
 ) -> Standing<M::Label>
     ensures { result ≡ preferred M.ops stands comes }
 {
-    match stands {
-        None => comes,
-        Some(there) => {
-            if M::no_worse(there.label, comes.label) {
-                there
-            } else {
-                comes
-            }
-        }
-    }
+    stands
+        .filter(|there| M::no_worse(there.label, comes.label))
+        .unwrap_or(comes)
 }
 
 // Puts a label on the board, unless one that stands there is no worse.
@@ -39,6 +44,5 @@ pub(crate) fn place<M: Measure>(
     requires { at < length board.old }
     ensures { board.new ≡ slice_set board.old at (Some (preferred M.ops (slice_index_or board.old at None) comes)) }
 {
-    let stands = board[at];
-    board[at] = Some(prefer::<M>(stands, comes));
+    board[at] = Some(prefer::<M>(board[at], comes));
 }

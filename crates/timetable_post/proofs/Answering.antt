@@ -1,6 +1,7 @@
 -- What a query does, from what the search found.
 use Rattle.std.proofs.Common.{◌≡◌, ℕ, ◌*◌, ◌≤◌, Bool, true, false, cond, not, ◌&&◌, eqb, leb, List, length, Some, None, Ok, Err, Option, Result, sym, refl, ap, ◌∙◌, subst, inl, inr, arith}
 use Rattle.std.specs.Option.{ok_or}
+use Rattle.std.proofs.lemmas.Option.{same_Some}
 use Rattle.faults.specs.declared.Fault.{Fault}
 use Rattle.faults.specs.declared.Fault.TheVariants.{BadWindow, EqualQueryStops, NoJourney, StepTableTooShort, WorkTableTooShort}
 use Rattle.faults.specs.Rules.{Kept, Rule, first_broken, judged}
@@ -12,11 +13,10 @@ use Rattle.journeys.specs.Best.{NothingFits}
 use Rattle.journeys.specs.Journeys.{Fits}
 use Rattle.journeys.specs.Verdicts.{in_force}
 use Rattle.search.specs.declared.answer.Answer.{Answer}
-use Rattle.search.specs.Queries.{query_rules, table_rules, tables}
+use Rattle.search.specs.Queries.{query_rules, table_rules}
 use Rattle.search.specs.Searches.{Found, Named, named, reads_of}
-use Rattle.steps.proofs.Somes.{some_same}
 use Rattle.timetable_post.specs.Calls.{QueryRight, queried}
-use Rattle.timetable_post.specs.Queries.{Answered, Handed, Queried, asking, checks_of}
+use Rattle.timetable_post.specs.Queries.{Answered, Handed, Queried, asking, checks_of, lengths_of}
 use Rattle.timetable_post.proofs.Histories.{carries_on}
 
 -- a list of rules is not kept and broken
@@ -63,7 +63,7 @@ module _ {L S X Y Z : Type 0} (m : Ops L) (events : S → List Event) (place : S
         named_so = λ kept js fits. kept_broken _ f kept broken;
         none = λ e. absurd (no_rule_so (not (eqb q.from q.to)) (leb q.open q.close && leb q.close 999999) (leb (length es * 2) (length b.log) && (leb 512 (length b.board) && leb (length es * 2) (length b.queue))) (leb (length es) (length b.steps)) (broken ∙ ap Some (err_same e)));
         none_so = λ kept none. kept_broken _ f kept broken;
-        refused = λ g e. ap Err (some_same (sym broken ∙ e));
+        refused = λ g e. ap Err (same_Some _ _ (sym broken ∙ e));
       }
   answered_right (Err f) steps' (same, inr (kept, is, none)) =
       record {
@@ -88,29 +88,31 @@ module _ {L S X Y Z : Type 0} (m : Ops L) (events : S → List Event) (place : S
         }
 
   -- a check that is not passed
-  pub queried_refused : (f : Fault) (a : Handed S X Y Z) → first_broken (checks_of m events place q b) ≡ Some f → a ≡ b → Queried m events place q b (Err f) a
-  queried_refused f a broken same =
-      queried_so (Err f) a (ap (λ x. x.steps) same, inl broken) (ap (λ x. x.marks) same) (λ _ _. same) (λ kept. kept_broken _ f kept broken)
+  queried_refused : (r : Result Answer Fault) (f : Fault) (a : Handed S X Y Z) → r ≡ Err f → first_broken (checks_of m events place q b) ≡ Some f → a ≡ b → Queried m events place q b r a
+  queried_refused r f a is broken same =
+      subst (λ x. Queried m events place q b x a) (sym is)
+      (queried_so (Err f) a (ap (λ x. x.steps) same, inl broken) (ap (λ x. x.marks) same) (λ _ _. same) (λ kept. kept_broken _ f kept broken))
 
   abbrev rules : List Rule
-  rules = table_rules (length es) (tables b.log b.board b.queue b.steps)
+  rules = table_rules (length es) (lengths_of b)
 
   -- a query that is refused by itself
-  pub queried_unchecked : (f : Fault) → judged (query_rules q) q ≡ Err f → Queried m events place q b (Err f) b
-  queried_unchecked f e = queried_refused f b (first_broken_broken (query_rules q) rules f (broken_from_err (first_broken (query_rules q)) q f e)) refl
+  pub queried_unchecked : (r : Result Answer Fault) (f : Fault) → r ≡ Err f → judged (query_rules q) q ≡ Err f → Queried m events place q b r b
+  queried_unchecked r f is e = queried_refused r f b is (first_broken_broken (query_rules q) rules f (broken_from_err (first_broken (query_rules q)) q f e)) refl
 
   -- one that passes as k goes on to its tables and the search
   module _ (k : Query) (e : judged (query_rules q) q ≡ Ok k) (a : Handed S X Y Z) where
     passed : first_broken (checks_of m events place q b) ≡ first_broken rules
     passed = first_broken_kept (query_rules q) rules (kept_from_ok (first_broken (query_rules q)) q k e)
 
-    pub queried_short : (f : Fault) → first_broken rules ≡ Some f → a ≡ b → Queried m events place q b (Err f) a
-    queried_short f broken same = queried_refused f a (passed ∙ broken) same
+    pub queried_short : (r : Result Answer Fault) (f : Fault) → r ≡ Err f → first_broken rules ≡ Some f → a ≡ b → Queried m events place q b r a
+    queried_short r f is broken same = queried_refused r f a is (passed ∙ broken) same
 
-    pub queried_found : a.marks ≡ b.marks → (o : Option Answer) → Kept rules × Found m es (in_force b.marks) k b.steps o a.steps → (events a.source ≡ es) × (place a.source ≡ reads_of es k.close) → Queried m events place q b (ok_or o NoJourney) a
-    queried_found marks o found read =
-        queried_so (ok_or o NoJourney) a (by_case o found) marks (λ f broken. kept_broken _ f (passed ∙ found.0) broken)
-        (λ _. (read.0, read.1 ∙ ap (λ x. reads_of es x.close) (sym same)))
+    pub queried_found : a.marks ≡ b.marks → (r : Result Answer Fault) (o : Option Answer) → r ≡ ok_or o NoJourney → Kept rules × Found m es (in_force b.marks) k b.steps o a.steps → (events a.source ≡ es) × (place a.source ≡ reads_of es k.close) → Queried m events place q b r a
+    queried_found marks r o is found read =
+        subst (λ x. Queried m events place q b x a) (sym is)
+        (queried_so (ok_or o NoJourney) a (by_case o found) marks (λ f broken. kept_broken _ f (passed ∙ found.0) broken)
+        (λ _. (read.0, read.1 ∙ ap (λ x. reads_of es x.close) (sym same))))
       where
         same : q ≡ k
         same = value_from_ok (first_broken (query_rules q)) q k e

@@ -29,7 +29,7 @@ use Rattle.journeys.specs.Best.{NothingFits}
 use Rattle.journeys.specs.Journeys.{Fits}
 use Rattle.journeys.specs.Verdicts.{in_force}
 use Rattle.search.specs.declared.answer.Answer.{Answer}
-use Rattle.search.specs.Queries.{Tables, query_rules, table_rules}
+use Rattle.search.specs.Queries.{Lengths, query_rules, table_rules}
 use Rattle.search.specs.Searches.{named}
 
 pub data Notice : Type 0 where
@@ -42,7 +42,7 @@ notice_of false = reinstatement
 
 pub record Asking : Type 0 where
   pub query : Query
-  pub tables : Tables
+  pub tables : Lengths
   pub score : List ℕ → Score
 
 pub data Call : Type 0 where

@@ -2,6 +2,8 @@
 -- m is the measure; events and place tell a source's list and place; q is the query; b is what the query is handed and
 -- meets, and a is the same as it leaves it.
 --     Handed               the post's source and marks, the three work tables and the step table
+--     handed source marks t  a source, marks and what the tables t hold
+--     lengths_of b         how long the tables are
 --     asking m es q b      what was asked, as the depot's day has it
 --     checks_of m .. b     the rules that the query obeys before it is searched for
 --     Answered .. r a      what is answered, by the case: Ok x names a journey, the best one that fits; Err f is the
@@ -9,7 +11,7 @@
 --     Queried .. b r a     answered: as above; marks: these are as found; refused: where a check is not passed
 --                          everything is as found; read: else the source's list is the same, and its place is how
 --                          many events were read; does, day: what the depot's day says of it
-use Rattle.std.specs.Prelude.{◌≡◌, ℕ, Bool, ◌⊎◌, List, Some, Ok, Err, Result}
+use Rattle.std.specs.Prelude.{◌≡◌, ℕ, Bool, ◌⊎◌, List, length, Some, Ok, Err, Option, Result}
 use Rattle.faults.specs.declared.Fault.{Fault}
 use Rattle.faults.specs.declared.Fault.TheVariants.{NoJourney}
 use Rattle.faults.specs.Rules.{Kept, Rule, first_broken}
@@ -19,8 +21,12 @@ use Rattle.journeys.specs.declared.query.Query.{Query}
 use Rattle.journeys.specs.Best.{NothingFits}
 use Rattle.journeys.specs.Formulas.{score_of}
 use Rattle.journeys.specs.Verdicts.{in_force}
+use Rattle.steps.specs.declared.arrival.Arrival.{Arrival}
+use Rattle.steps.specs.declared.board.Standing.{Standing}
+use Rattle.steps.specs.declared.entry.Entry.{Entry}
 use Rattle.search.specs.declared.answer.Answer.{Answer}
-use Rattle.search.specs.Queries.{tables}
+use Rattle.search.specs.declared.tables.Tables.{Tables}
+use Rattle.search.specs.Queries.{Lengths}
 use Rattle.search.specs.Searches.{Named, reads_of}
 use Rattle.timetable_post.specs.Calls.{Asking, Does, checks, queried}
 use Rattle.timetable_post.specs.Days.{CarriesOn}
@@ -33,12 +39,15 @@ pub record Handed (S X Y Z : Type 0) : Type 0 where
   pub queue : List Z
   pub steps : List ℕ
 
-abbrev pub handed : {S X Y Z : Type 0} → S → List Bool → List X → List Y → List Z → List ℕ → Handed S X Y Z
-handed source marks log board queue steps =
-    record { source = source; marks = marks; log = log; board = board; queue = queue; steps = steps }
+abbrev pub handed : {S L : Type 0} → S → List Bool → Tables L → Handed S (Option (Entry L)) (Option (Standing L)) Arrival
+handed source marks t =
+    record { source = source; marks = marks; log = t.log.now; board = t.board.now; queue = t.queue.now; steps = t.steps.now }
+
+abbrev pub lengths_of : {S X Y Z : Type 0} → Handed S X Y Z → Lengths
+lengths_of b = record { log = length b.log; board = length b.board; queue = length b.queue; steps = length b.steps }
 
 abbrev pub asking : {L S X Y Z : Type 0} → Ops L → List Event → Query → Handed S X Y Z → Asking
-asking m es q b = record { query = q; tables = tables b.log b.board b.queue b.steps; score = score_of m es }
+asking m es q b = record { query = q; tables = lengths_of b; score = score_of m es }
 
 module _ {L S X Y Z : Type 0} (m : Ops L) (events : S → List Event) (place : S → ℕ) (q : Query) (b : Handed S X Y Z) where
   abbrev pub checks_of : List Rule

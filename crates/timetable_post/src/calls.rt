@@ -1,17 +1,18 @@
 // The calls of a post.
 ghost use Rattle.std.specs.Prelude.{◌≡◌, false, [], length, replicate};
+ghost use Rattle.search.specs.Tables.{SameTables};
 ghost use Rattle.timetable_post.specs.Calls.{Does, notice_of, noticed, reinstatement, tallied, withdrawal};
 ghost use Rattle.timetable_post.specs.Days.{CarriesOn, Explains};
 ghost use Rattle.timetable_post.specs.Queries.{Queried, handed};
 
 use crate::ask::ask;
-use crate::marks::{MOST_EVENTS, all_in_force, count_set};
+use crate::marks::{all_in_force, count_set};
 use faults::Fault;
 use journeys::Query;
 use measures::Measure;
-use search::{Answer, Carried};
+use records::MOST_EVENTS;
+use search::{Answer, Carried, Tables};
 use sources::Source;
-use steps::{Arrival, Entry, Standing};
 
 // A source, and a mark for each event that is out of force.
 #[derive(Drop)]
@@ -42,7 +43,7 @@ impl<S: Source + Drop> Post<S> {
         source
     }
 
-    // Sets or takes away the mark of an event; refuses where there is no such event, and where the mark is so already.
+    // Sets or takes away the mark of an event, which is what tells a withdrawal from a reinstatement; refuses where there is no such event, and where the mark is so already.
     fn note(&mut self, event: usize, out: bool) -> Result<(), Fault>
         ensures does { Does (S.events self.old.source) self.old.marks (noticed (notice_of out) event result) self.new.marks }
         ensures source { self.new.source ≡ self.old.source }
@@ -90,21 +91,11 @@ impl<S: Source + Drop> Post<S> {
     pub fn query<M: Measure>(
         &mut self,
         query: Query,
-        log: &mut [Option<Entry<Carried<M::Label>>>],
-        board: &mut [Option<Standing<Carried<M::Label>>>],
-        queue: &mut [Arrival],
-        steps: &mut [usize],
+        tables: &mut Tables<'_, Carried<M::Label>>,
     ) -> Result<Answer, Fault>
-        ensures { Queried M.ops S.events S.place query (handed self.old.source self.old.marks log.old board.old queue.old steps.old) result (handed self.new.source self.new.marks log.new board.new queue.new steps.new) }
+        ensures queried { Queried M.ops S.events S.place query (handed self.old.source self.old.marks tables.old) result (handed self.new.source self.new.marks tables.new) }
+        ensures same { SameTables tables.old tables.new }
     {
-        ask::<S, M>(
-            &mut self.source,
-            &self.marks,
-            query,
-            log,
-            board,
-            queue,
-            steps,
-        )
+        ask::<S, M>(&mut self.source, &self.marks, query, tables)
     }
 }

@@ -1,8 +1,7 @@
 // The marks of a post: true for an event that is out of force.
-ghost use Rattle.std.specs.Prelude.{◌≡◌, ◌+◌, ◌^◌, ◌<◌, false, replicate, if◌then◌else◌, count_by};
+ghost use Rattle.std.specs.Prelude.{◌≡◌, false, replicate, count_by};
 
-// The most events that a source has.
-pub(crate) const MOST_EVENTS: usize = 1_024;
+use records::MOST_EVENTS;
 
 // The marks with every event in force.
 pub(crate) fn all_in_force() -> [bool; MOST_EVENTS]
@@ -11,21 +10,13 @@ pub(crate) fn all_in_force() -> [bool; MOST_EVENTS]
     [false; MOST_EVENTS]
 }
 
-// The count with one mark more.
-fn counted(count: usize, mark: bool) -> usize
-    requires { count < 2 ^ 63 }
-    ensures { result ≡ count + (if mark then 1 else 0) }
-{
-    if mark { count + 1 } else { count }
-}
-
-// How many marks are set.
+// How many marks are set; a loop, as the tally is wanted.
 pub(crate) fn count_set(marks: &[bool]) -> usize
     ensures { result ≡ count_by (λ b. b) marks.now }
 {
     let mut count = 0;
     for mark in marks {
-        count = counted(count, *mark);
+        count += usize::from(*mark);
     }
     count
 }

@@ -5,22 +5,20 @@ ghost use Rattle.std.specs.Prelude.{map, IfOk};
 ghost use Rattle.blocks.specs.Loads.{Filled};
 ghost use Rattle.records.specs.Layout.{layout};
 
-use blocks::{Block, Load};
+use blocks::{Block, Load, RECORD_BYTES};
 use faults::Fault;
-use journeys::{Query, Verdict, judge};
+use journeys::{Query, judge};
 use lines::LineSource;
 use measures::{
     EarliestArrival, Fastest, FewestRides, LatestDeparture, LeastRiding, LeastWaiting, Measure,
 };
 use records::{Event, write};
 use sources::{RecordSource, Source, read_through};
-use std::io;
-use worked_scores::worked_events;
+use std::{io, iter};
+use worked_scores::{WORKED_QUERY, worked_events};
 
 // Room for one record more than the day has.
 const MEMORY_BYTES: usize = 128;
-
-const RECORD_BYTES: usize = 16;
 
 // Fills memory with the records of the events, in their order, and tells how many there are.
 fn store(memory: &mut [u8], events: &[Event]) -> Result<usize, Fault>
@@ -34,37 +32,18 @@ fn store(memory: &mut [u8], events: &[Event]) -> Result<usize, Fault>
     Ok(load.finish())
 }
 
-fn print_event(rt: &impl Print, place: usize, event: Event) -> io::Result<()> {
-    match event {
-        Event::Opening { stop, minute } => println!(rt;
-            "{place}: opening at {stop}, minute {minute}"
-        ),
-        Event::Ride {
-            from,
-            to,
-            departure,
-            duration,
-        } => println!(rt; "{place}: {from}-{to} {departure}+{duration}"),
-    }
-}
-
-fn print_fault(rt: &impl Print, fault: Fault) -> io::Result<()> {
-    let report = fault.report();
-    let (number, layer, place) = (report.number, report.layer, report.place);
-    println!(rt; "no {number} {layer} {place}")
-}
-
+// A block answers by place, so the places are gone through.
 fn print_block(rt: &impl Print, bytes: &[u8]) -> io::Result<()> {
     match Block::open(bytes) {
         Ok(block) => {
             for place in 0..block.len() {
                 if let Some(event) = block.event(place) {
-                    print_event(rt, place, event)?;
+                    println!(rt; "{place}: {event}")?;
                 }
             }
             Ok(())
         }
-        Err(fault) => print_fault(rt, fault),
+        Err(fault) => println!(rt; "{fault}"),
     }
 }
 
@@ -89,10 +68,9 @@ fn print_source<S: Source>(rt: &impl Print, title: &str, source: &mut S) -> io::
     let (openings, rides) = (counts.openings, counts.rides);
     println!(rt; "{title}: {openings} openings, {rides} rides")?;
     source.rewind();
-    for place in 0..source.size() {
-        if let Some(event) = source.next() {
-            print_event(rt, place, event)?;
-        }
+    let size = source.size();
+    for (place, event) in iter::from_fn(|| source.next()).take(size).enumerate() {
+        println!(rt; "{place}: {event}")?;
     }
     Ok(())
 }
@@ -100,22 +78,11 @@ fn print_source<S: Source>(rt: &impl Print, title: &str, source: &mut S) -> io::
 fn print_sources(rt: &impl Print, bytes: &[u8]) -> io::Result<()> {
     match RecordSource::open(bytes) {
         Ok(mut source) => print_source(rt, "records", &mut source)?,
-        Err(fault) => print_fault(rt, fault)?,
+        Err(fault) => println!(rt; "{fault}")?,
     }
     match LineSource::open(&LINES) {
         Ok(mut source) => print_source(rt, "lines", &mut source),
-        Err(fault) => print_fault(rt, fault),
-    }
-}
-
-// From stop 1 to stop 3 within the minutes 100 to 200.
-fn asking(call: bool) -> Query {
-    Query {
-        from: 1,
-        to: 3,
-        open: 100,
-        close: 200,
-        call,
+        Err(fault) => println!(rt; "{fault}"),
     }
 }
 
@@ -129,36 +96,30 @@ fn print_journey<M: Measure>(
     let Some(verdict) = judge::<M>(&worked_events(), &[], query, steps) else {
         return println!(rt; "{title}: {steps:?} does not fit");
     };
-    let Verdict {
-        begin,
-        end,
-        riding,
-        rides,
-        score,
-    } = verdict;
-    let (first, second) = score;
-    println!(rt;
-        "{title}: {steps:?} from {begin} to {end}, riding {riding}, rides {rides}, score ({first}; {second})"
-    )
+    println!(rt; "{title}: {steps:?} {verdict}")
 }
 
 fn print_journeys(rt: &impl Print) -> io::Result<()> {
-    print_journey::<EarliestArrival>(rt, "e", asking(false), &[2, 4])?;
-    print_journey::<LatestDeparture>(rt, "l", asking(false), &[2, 4])?;
-    print_journey::<Fastest>(rt, "f", asking(false), &[2, 4])?;
-    print_journey::<LeastRiding>(rt, "s", asking(false), &[2, 5])?;
-    print_journey::<FewestRides>(rt, "n", asking(false), &[1])?;
-    print_journey::<LeastWaiting>(rt, "c", asking(false), &[2, 4])?;
-    print_journey::<FewestRides>(rt, "n with a call", asking(true), &[1, 6])?;
-    print_journey::<LeastRiding>(rt, "s with a call", asking(true), &[2, 3, 5])?;
-    print_journey::<EarliestArrival>(rt, "e", asking(false), &[4, 2])
+    let with_a_call = Query {
+        call: true,
+        ..WORKED_QUERY
+    };
+    print_journey::<EarliestArrival>(rt, "e", WORKED_QUERY, &[2, 4])?;
+    print_journey::<LatestDeparture>(rt, "l", WORKED_QUERY, &[2, 4])?;
+    print_journey::<Fastest>(rt, "f", WORKED_QUERY, &[2, 4])?;
+    print_journey::<LeastRiding>(rt, "s", WORKED_QUERY, &[2, 5])?;
+    print_journey::<FewestRides>(rt, "n", WORKED_QUERY, &[1])?;
+    print_journey::<LeastWaiting>(rt, "c", WORKED_QUERY, &[2, 4])?;
+    print_journey::<FewestRides>(rt, "n with a call", with_a_call, &[1, 6])?;
+    print_journey::<LeastRiding>(rt, "s with a call", with_a_call, &[2, 3, 5])?;
+    print_journey::<EarliestArrival>(rt, "e", WORKED_QUERY, &[4, 2])
 }
 
 fn run(rt: &impl Print) -> io::Result<()> {
     let mut memory = [0u8; MEMORY_BYTES];
     let count = match store(&mut memory, &worked_events()) {
         Ok(count) => count,
-        Err(fault) => return print_fault(rt, fault),
+        Err(fault) => return println!(rt; "{fault}"),
     };
     println!(rt; "{count} records")?;
     let end = count.saturating_mul(RECORD_BYTES).min(MEMORY_BYTES);

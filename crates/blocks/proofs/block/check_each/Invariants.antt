@@ -1,8 +1,9 @@
-use Rattle.std.proofs.Common.{◌≡◌}
+use Rattle.std.proofs.Common.{◌≡◌, drop}
 use Rattle.faults.specs.Rules.{first_broken}
 use Rattle.blocks.specs.Blocks.{records_rules}
-use Rattle.blocks.proofs.Scans.{rules_from}
+use Rattle.blocks.proofs.Lists.{rules_behind}
 use Rattle.blocks.proofs.block.check_each.Given as goal
 
 abbrev pub invariant-loop-place : goal.invariant-loop-place
-invariant-loop-place l = first_broken (rules_from l.bytes l.place) ≡ first_broken (records_rules l.bytes)
+invariant-loop-place l =
+    first_broken (rules_behind l.last l.place (drop l.place l.rows)) ≡ first_broken (records_rules l.rows)

@@ -1,7 +1,7 @@
 use Rattle.std.proofs.Common.{Err, sym, subst}
 use Rattle.faults.specs.declared.Fault.TheVariants.{NotACommand}
 use Rattle.commands.specs.Grammar.{Answered}
-use Rattle.commands.proofs.Lines.{answered_at, read_on, refused_at}
+use Rattle.commands.proofs.Lines.{answered_at, refused_at}
 use Rattle.commands.proofs.Placing.{short_texts}
 use Rattle.commands.proofs.Texts.{reads_from_answered, unique}
 use Rattle.commands.proofs.reader.parse.Goals as goal
@@ -12,12 +12,6 @@ returns-in_default c =
     let l = c.loop-place in
     let r = refused_at line l.place l.state l.invariant.0 l.invariant.1 c.loop-place-test.true c.in_default.ensures in
     record { value = r; reads = reads_from_answered line (Err (NotACommand l.place)) r; unique = unique; short = short_texts }
-
-pub loop-place-preserved : goal.loop-place-preserved
-loop-place-preserved c =
-    let l = c.loop-place in
-    let m = c.in-Some.ensures in
-    (m.0, read_on c.args.line.now l.place l.state l.invariant.0 l.invariant.1 c.loop-place-test.true c.in-Some.next m)
 
 pub returns : goal.returns
 returns c =

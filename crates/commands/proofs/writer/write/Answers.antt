@@ -1,11 +1,15 @@
-use Rattle.std.proofs.Common.{◌∙◌, arith}
-use native.Mathlib.Nat.{sub-zero}
-use Rattle.commands.proofs.Placing.{short_texts, written}
+use Rattle.std.proofs.Common.{◌++◌, length, refl, ap, ◌∙◌, arith}
+use Rattle.commands.specs.Grammar.{text}
+use Rattle.commands.proofs.Placing.{short_texts, wrote}
 use Rattle.commands.proofs.writer.write.Goals as goal
 
-pub slice_bounds-copy_from_slice-end-2 : goal.slice_bounds-copy_from_slice-end-2
-slice_bounds-copy_from_slice-end-2 c = omega (arith, short_texts c.args.command c.if-not-is_valid.ensures)
+pub returns-in-Ok : goal.returns-in-Ok
+returns-in-Ok c =
+    let e = c.in-Ok.ensures ∙ ap (λ x. x ++ text c.args.command) c.new-line.ensures in
+    wrote c.args.command _ _ _ _ c.if-not-is_valid.ensures e c.copy_out.ensures
 
-pub returns : goal.returns
-returns c =
-    written c.args.command c.args.out.now c.copy_from_slice.new.self c.place_text-length.result c.if-not-is_valid.ensures (omega arith) (omega arith) (rw sub-zero at c.copy_from_slice.ensures.after ∙ c.place_text-length.ensures.front)
+pub returns-in-Err : goal.returns-in-Err
+returns-in-Err c = (
+  refl,
+  λ v. absurd (omega (arith, short_texts c.args.command v, c.in-Err.ensures, ap length c.new-line.ensures)),
+)

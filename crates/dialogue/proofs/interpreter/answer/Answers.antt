@@ -1,29 +1,30 @@
-use Rattle.std.proofs.Common.{refl, ap, subst, arith}
-use Rattle.replies.specs.declared.reply.Reply.TheVariants.{Refused}
+use Rattle.std.proofs.Common.{Err, refl, ap, subst, arith}
+use Rattle.std.proofs.lemmas.Result.{err_from_is_err_and}
 use Rattle.dialogue.specs.Obeying.{Obeys, desk}
 use Rattle.dialogue.proofs.Lengths.{obeys_short, unknown_line_short}
 use Rattle.dialogue.proofs.Refusals.{ok_same, one_refusal}
 use Rattle.dialogue.proofs.interpreter.answer.Goals as goal
 
-pub returns-in-Ok : goal.returns-in-Ok
-returns-in-Ok g c =
-    let parsed = c.in-Ok.ensures in
+pub returns-clause-interprets : goal.returns-clause-interprets
+returns-clause-interprets g c =
+    let parsed = c.in_ok-parse.ensures in
+    let command = c.in_ok-parse.field-0 in
     let post = c.args.post.now in
-    let b = desk post.source post.marks c.args.log.now c.args.board.now c.args.trip_log.now c.args.trip_board.now c.args.queue.now c.args.steps.now in
-    let a = desk c.obey.new.post.source c.obey.new.post.marks c.obey.new.log c.obey.new.board c.obey.new.trip_log c.obey.new.trip_board c.obey.new.queue
-    c.obey.new.steps in
+    let b = desk post.source post.marks c.args.tables.now in
+    let a = desk c.obey.new.post.source c.obey.new.post.marks c.obey.new.tables in
     record {
-      obeys = λ command spells. subst (λ d. Obeys g.S.Source.events g.S.Source.place b d c.obey.result a) (ok_same (parsed.reads command spells)) c.obey.ensures;
-      refuses = λ f r. absurd (r.none c.in-Ok.command parsed.value);
+      obeys = λ d spells. subst (λ x. Obeys g.S.Source.events g.S.Source.place b x c.obey.result a) (ok_same (parsed.reads d spells)) c.obey.ensures.obeys;
+      refuses = λ f r. absurd (r.none command parsed.value);
       short =
-          obeys_short g.S.Source.events g.S.Source.place g.S.Source.listed b post.long c.obey.result a c.in-Ok.command parsed.value.0 c.obey.ensures;
+          obeys_short g.S.Source.events g.S.Source.place g.S.Source.listed b post.long c.obey.result a command parsed.value.0 c.obey.ensures.obeys;
     }
 
-pub returns-in-Err : goal.returns-in-Err
-returns-in-Err g c =
-    let refused = c.in-Err.ensures.value in
-    record {
+pub returns-in_err-parse-clause-interprets : goal.returns-in_err-parse-clause-interprets
+returns-in_err-parse-clause-interprets g c =
+    let refused = c.in_err-parse.ensures.value in
+    let p = err_from_is_err_and c.from_residual.result c.from_residual.ensures.1 in
+    rw (p.1, p.2) (record {
       obeys = λ command spells. absurd (refused.none command spells);
-      refuses = λ f r. (ap Refused (one_refusal c.args.line.now c.in-Err.fault f refused r), refl);
-      short = unknown_line_short refused.place c.args.steps.now c.in-Err.fault (omega (arith, refused.within, c.well_formed)) refused.told;
-    }
+      refuses = λ f r. (ap Err (one_refusal c.args.line.now c.in_err-parse.field-0.0 f refused r), refl);
+      short = unknown_line_short refused.place c.args.tables.now.steps.now c.in_err-parse.field-0.0 (omega (arith, refused.within, c.well_formed)) refused.told;
+    })

@@ -2,19 +2,8 @@ use Rattle.std.proofs.Common.{sym, ◌∙◌, subst}
 use Rattle.measures.specs.Measures.{◌≼◌}
 use Rattle.std.proofs.lemmas.Bool.{both_ways}
 use Rattle.search.specs.Readings.{Leads, scored}
-use Rattle.search.proofs.Leading.{leads_first, leads_kept, leads_lower, leads_still}
+use Rattle.search.proofs.Leading.{leads_kept, leads_lower}
 use Rattle.search.proofs.lead.lead.Goals as goal
-
-pub returns-in_default : goal.returns-in_default
-returns-in_default g c log at h =
-    leads_still g.M.Measure.ops c.args.query log c.args.event c.args.leader
-    (λ e is ends. c.in_default.ensures e (sym at ∙ is) ends) h
-
-pub returns-in_default-leader : goal.returns-in_default-leader
-returns-in_default-leader g c log at h =
-    let comes = c.in-Some.ensures in
-    leads_first g.M.Measure.ops c.args.query log c.args.event c.in-Some.comes comes.0 (at ∙ comes.1) comes.2
-    (subst (Leads g.M.Measure.ops c.args.query log c.args.event) c.in_default-leader.is h)
 
 pub returns-then-not_higher : goal.returns-then-not_higher
 returns-then-not_higher g c log at h =

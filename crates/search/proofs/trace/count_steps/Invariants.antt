@@ -5,10 +5,13 @@ use Rattle.search.proofs.trace.count_steps.Given as goal
 
 abbrev pub invariant-loop-before : goal.invariant-loop-before
 invariant-loop-before g l =
-    (l.count + l.stage.event ≤ l.initial.stage.event + 1)
-    × ((js : List ℕ)
-    → Traced (view l.log) l.initial.stage.event l.initial.stage.called js
-    → (ks : List ℕ) × Traced (view l.log) l.stage.event l.stage.called ks × (length js + 1 ≡ l.count + length ks))
+    record {
+      few : l.count + l.stage.event ≤ l.initial.stage.event + 1;
+      left :
+          (js : List ℕ)
+          → Traced (view l.tables.log.now) l.initial.stage.event l.initial.stage.called js
+          → (ks : List ℕ) × Traced (view l.tables.log.now) l.stage.event l.stage.called ks × (length js + 1 ≡ l.count + length ks);
+    }
 
 abbrev pub decreases-loop-before : goal.decreases-loop-before
 decreases-loop-before g l = l.stage.event

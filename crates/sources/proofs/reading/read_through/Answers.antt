@@ -15,11 +15,11 @@ returns g c =
 
 pub loop-event-preserved : goal.loop-event-preserved
 loop-event-preserved g c =
-    midway_more _ _ _ _ _ _ c.loop-event.invariant c.in-Some.event c.counted-counts.result c.in-Some.ensures
-    c.counted-counts.ensures.openings c.counted-counts.ensures.rides
+    midway_more _ _ _ _ _ _ c.loop-event.invariant c.in-Some.event c.count.new.self c.in-Some.ensures
+    c.count.ensures.openings c.count.ensures.rides
 
-pub counted-counts-requires : goal.counted-counts-requires
-counted-counts-requires g c =
+pub count-requires : goal.count-requires
+count-requires g c =
     midway_few _ _ _ _ (g.S.Source.events c.next.new.self) (g.S.Source.place c.next.new.self) c.loop-event.invariant
     c.in-Some.event c.in-Some.ensures.item (g.S.Source.listed c.loop-event.source).few
 

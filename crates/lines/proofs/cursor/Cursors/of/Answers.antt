@@ -1,27 +1,32 @@
-use Rattle.std.proofs.Common.{◌<◌, [], ◌∷◌, ◌++◌, map, length, get_or, take, sym, ap, ◌∙◌, arith}
-use Rattle.std.proofs.lemmas.List.{length-set, take_all, take_more, take_more_set, map-append}
+use Rattle.std.proofs.Common.{rules, ◌≡◌, ◌<◌, map, get_or, sym, ◌∙◌, subst, ⊎_elim, arith}
+use Rattle.std.proofs.lemmas.List.{ext_get_or, get_or_past, get_or-map, length-map}
+use Rattle.std.proofs.lemmas.Bool.{cases_lt}
 use Rattle.lines.specs.Lines.{no_line}
-use Rattle.lines.specs.Merges.{cursor_of}
+use Rattle.lines.specs.Merges.{beyond, cursor_of, no_cursor}
 use Rattle.lines.proofs.cursor.Cursors.of.Goals as goal
 
-pub loop-line-preserved : goal.loop-line-preserved
-loop-line-preserved c =
+pub invariant_of-result : goal.invariant_of-result
+invariant_of-result c =
     let ls = c.args.lines.now in
-    let i = c.loop-line.line in
-    let x = c.cursor_of.result in
-    let table = c.loop-line.table in
-    let h : i < length table = omega arith in
-    let k : i < length ls = omega arith in (
-      length-set table i x ∙ c.loop-line.invariant.0,
-      take_more_set table i x h
-          ∙ ap (λ l. l ++ x ∷ []) c.loop-line.invariant.1
-          ∙ ap (λ y. map cursor_of (take i ls) ++ y ∷ []) c.cursor_of.ensures
-          ∙ sym (ap (map cursor_of) (take_more ls i no_line k) ∙ map-append cursor_of (take i ls) (get_or ls i no_line ∷ [])),
-    )
+    let m = c.map.ensures.items in
+    record {
+      all = m.long;
+      fits = λ k.
+          ⊎_elim
+          (λ h.
+          let t = m.at k no_line no_cursor h in
+          let e : get_or c.map.result k no_cursor ≡ cursor_of (get_or ls.lines k no_line) = search rules in
+          subst (λ d. beyond d < 4294967296) (sym e) (ls.fits k))
+          (λ h. subst (λ d. beyond d < 4294967296) (sym (get_or_past c.map.result k no_cursor (omega (arith, m.long)))) (omega arith))
+          (cases_lt k 32);
+    }
 
 pub returns : goal.returns
 returns c =
-    let i = c.loop-line.line in
-    sym (take_all i c.loop-line.table (omega (arith, c.loop-line.invariant.0)))
-    ∙ c.loop-line.invariant.1
-    ∙ ap (map cursor_of) (take_all i c.args.lines.now (omega arith))
+    let ls = c.args.lines.now in
+    let m = c.map.ensures.items in
+    ext_get_or no_cursor c.map.result (map cursor_of ls.lines) (m.long ∙ sym (length-map ls.lines cursor_of ∙ ls.all))
+    (λ k h.
+    let t = m.at k no_line no_cursor (omega (arith, m.long)) in
+    let e : get_or c.map.result k no_cursor ≡ cursor_of (get_or ls.lines k no_line) = search rules in
+    e ∙ sym (get_or-map cursor_of ls.lines k no_line no_cursor (omega (arith, m.long, ls.all))))

@@ -10,7 +10,7 @@ use Rattle.lines.proofs.line_source.LineSourceSource.next.Goals as goal
 pub returns-in_err-departure : goal.returns-in_err-departure
 returns-in_err-departure c =
     let s = c.args.self.now in
-    let ls = s.lines in
+    let ls = s.table.lines in
     let d = c.in_err-departure.ensures in
     subst (λ o. Reading (events_on ls) s.place o (events_on ls) s.place) (sym c.from_residual.ensures)
     (reads_none ls s.place (lefts s.merge.cursors.table) (lefts c.next_departure.new.self.cursors.table) s.left s.reached d.0)
@@ -18,19 +18,13 @@ returns-in_err-departure c =
 pub invariant_of-self-2 : goal.invariant_of-self-2
 invariant_of-self-2 c =
     let s = c.args.self.now in
-    let ls = s.lines in
+    let ls = s.table.lines in
     let left = lefts s.merge.cursors.table in
     let left' = lefts c.next_departure.new.self.cursors.table in
     let x = c.in_ok-departure.departure in
     let d = c.in_ok-departure.ensures in
     let h = more_behind (departures ls) left left' s.place (sorted_rising (runs ls)) s.left x d in
     record {
-      all = s.all;
-      size = s.size;
-      few = s.few;
-      within = s.within;
-      ordered = s.ordered;
-      fits = s.fits;
       reached = omega (arith, h, length-map (departures ls) (ride_on ls));
       left = drawn_rest (departures ls) left left' s.place (sorted_rising (runs ls)) s.left x d;
     }
@@ -38,7 +32,7 @@ invariant_of-self-2 c =
 pub returns : goal.returns
 returns c =
     let s = c.args.self.now in
-    let ls = s.lines in
+    let ls = s.table.lines in
     subst (λ e. Reading (events_on ls) s.place (Some e) (events_on ls) (s.place + 1)) (sym c.ride_on.ensures)
     (reads_one ls s.place (lefts s.merge.cursors.table) (lefts c.next_departure.new.self.cursors.table) s.left
     c.in_ok-departure.departure c.in_ok-departure.ensures)

@@ -3,12 +3,8 @@ use Rattle.timetable_post.specs.Calls.{tallied}
 use Rattle.timetable_post.proofs.Histories.{carries_on}
 use Rattle.timetable_post.proofs.calls.Post.tally.Goals as goal
 
-pub returns : goal.returns
-returns g c =
+pub returns-clause-day : goal.returns-clause-day
+returns-clause-day g c =
     let post = c.args.self.now in
-    record {
-      does = (c.count_set.ensures, refl);
-      day =
-          carries_on (g.S.Source.events post.source) (g.S.Source.listed post.source).few post.marks (tallied c.count_set.result) post.marks
-          (c.count_set.ensures, refl);
-    }
+    carries_on (g.S.Source.events post.source) (g.S.Source.listed post.source).few post.marks (tallied c.count_set.result) post.marks
+    (c.count_set.ensures, refl)

@@ -1,0 +1,13 @@
+-- The tables that a post works with. Assumes nothing.
+--     SamePostTables t t'  each of them is the memory that it was, and as long as it was
+use Rattle.steps.specs.Tables.{SameSlice}
+use Rattle.dialogue.specs.declared.tables.PostTables.{PostTables}
+
+abbrev pub SamePostTables : PostTables → PostTables → Type 0
+SamePostTables t t' =
+    SameSlice t.log t'.log
+    × SameSlice t.board t'.board
+    × SameSlice t.trip_log t'.trip_log
+    × SameSlice t.trip_board t'.trip_board
+    × SameSlice t.queue t'.queue
+    × SameSlice t.steps t'.steps

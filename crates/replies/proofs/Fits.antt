@@ -1,0 +1,18 @@
+-- Numbers, printed: how many bytes the first of them take, and those of a report.
+use Rattle.std.proofs.Common.{◌≡◌, ℕ, zero, suc, ◌+◌, ◌<◌, ◌≤◌, List, [], ◌∷◌, ◌++◌, length, get_or, take, codes, decimal, ap, arith}
+use Rattle.std.proofs.lemmas.List.{append-nil, length-append}
+use Rattle.faults.specs.declared.Report.{Report}
+use Rattle.faults.specs.Numbered.{told}
+use Rattle.commands.specs.Grammar.{spaced}
+use Rattle.replies.specs.Printed.{numbers}
+
+-- the first numbers and one more take no more bytes than all
+pub numbers_fit : (ns : List ℕ) (k : ℕ) → k < length ns → length (numbers (take k ns)) + length (spaced (get_or ns k 0)) ≤ length (numbers ns)
+numbers_fit [] k h = absurd (omega arith)
+numbers_fit (n ∷ ns) zero h = simp length-append (omega arith)
+numbers_fit (n ∷ ns) (suc k) h = simp length-append (omega (arith, numbers_fit ns k (omega arith)))
+
+-- a report is told by its three numbers
+pub told_numbers : (r : Report) → codes "no" ++ numbers (r.number ∷ r.layer ∷ r.place ∷ []) ≡ told r
+told_numbers r =
+    ap (λ x. codes "no " ++ (decimal r.number ++ (codes " " ++ (decimal r.layer ++ (codes " " ++ x))))) (append-nil (decimal r.place))

@@ -1,0 +1,91 @@
+// A line of a script:
+//     d                                a new day
+//     o STOP MINUTE                    its next event, an opening
+//     r FROM TO DEPARTURE DURATION     its next event, a ride
+//     x NUMBER                         the event with this number is out of force
+//     j or q, FROM TO OPEN CLOSE CALL  a question about the day; what stands behind it is the program's to read
+use journeys::Query;
+use records::Event;
+use std::error::Error;
+use std::fmt;
+use std::str::{FromStr, Split};
+
+// What a line tells.
+#[derive(Clone, Copy, PartialEq, Eq, Debug)]
+pub enum DayLine {
+    New,
+    Add(Event),
+    Withdraw(u32),
+    Ask(Query),
+}
+
+// Why a line tells nothing.
+#[derive(Clone, Copy, PartialEq, Eq, Debug)]
+pub enum LineError {
+    UnknownLetter,
+    MissingNumber,
+    NotANumber,
+}
+
+impl fmt::Display for LineError {
+    fn fmt<W: fmt::Write>(&self, f: &mut fmt::Formatter<W>) -> fmt::Result {
+        f.write_str(match self {
+            LineError::UnknownLetter => "a line begins with no known letter",
+            LineError::MissingNumber => "a number is missing",
+            LineError::NotANumber => "a word is not a number, or too large a one",
+        })
+    }
+}
+
+impl Error for LineError {}
+
+// The next word as a number.
+fn next<T: FromStr>(words: &mut Split<char>) -> Result<T, LineError>
+where
+    T::Err: Drop,
+{
+    let word = words.next().ok_or(LineError::MissingNumber)?;
+    word.parse::<T>().map_err(|_| LineError::NotANumber)
+}
+
+fn opening(words: &mut Split<char>) -> Result<Event, LineError> {
+    Ok(Event::Opening {
+        stop: next(words)?,
+        minute: next(words)?,
+    })
+}
+
+fn ride(words: &mut Split<char>) -> Result<Event, LineError> {
+    Ok(Event::Ride {
+        from: next(words)?,
+        to: next(words)?,
+        departure: next(words)?,
+        duration: next(words)?,
+    })
+}
+
+fn query(words: &mut Split<char>) -> Result<Query, LineError> {
+    Ok(Query {
+        from: next(words)?,
+        to: next(words)?,
+        open: next(words)?,
+        close: next(words)?,
+        call: next::<u8>(words)? == 1,
+    })
+}
+
+impl FromStr for DayLine {
+    type Err = LineError;
+
+    fn from_str(line: &str) -> Result<DayLine, LineError> {
+        let mut words = line.split(' ');
+        match words.next() {
+            Some("d") => Ok(DayLine::New),
+            Some("o") => Ok(DayLine::Add(opening(&mut words)?)),
+            Some("r") => Ok(DayLine::Add(ride(&mut words)?)),
+            Some("x") => Ok(DayLine::Withdraw(next(&mut words)?)),
+            Some("j" | "q") => Ok(DayLine::Ask(query(&mut words)?)),
+            _ => Err(LineError::UnknownLetter),
+        }
+    }
+}

@@ -1,0 +1,31 @@
+-- What the tables of a search hold, and that they stay the same memory. Assumes nothing.
+--     Contents L           a log, a board, and a queue of arrivals with the number of its slots that are in use
+--     contents w           what the tables w hold
+--     awaited c            the arrivals that the queue holds
+--     SameSlice a b        a slice is the memory that it was, and as long as it was
+--     SameWork w w'        so it is with the log, the board and the queue
+use Rattle.std.specs.Prelude.{◌≡◌, ℕ, List, length, Option}
+use Rattle.std.specs.Borrow.{MutBor}
+use Rattle.queue.specs.Queue.{held}
+use Rattle.steps.specs.declared.arrival.Arrival.{Arrival}
+use Rattle.steps.specs.declared.board.Standing.{Standing}
+use Rattle.steps.specs.declared.entry.Entry.{Entry}
+use Rattle.steps.specs.declared.work.Work.{Work}
+
+pub record Contents (L : Type 0) : Type 0 where
+  pub log : List (Option (Entry L))
+  pub board : List (Option (Standing L))
+  pub queue : List Arrival
+  pub used : ℕ
+
+abbrev pub contents : {L : Type 0} → Work L → Contents L
+contents w = record { log = w.log.now; board = w.board.now; queue = w.queue.now; used = w.used }
+
+abbrev pub awaited : {L : Type 0} → Contents L → List Arrival
+awaited c = held c.queue c.used
+
+abbrev pub SameSlice : {X : Type 0} → MutBor (List X) → MutBor (List X) → Type 0
+SameSlice a b = (b.ghost_name ≡ a.ghost_name) × (length b.now ≡ length a.now)
+
+abbrev pub SameWork : {L : Type 0} → Work L → Work L → Type 0
+SameWork w w' = SameSlice w.log w'.log × SameSlice w.board w'.board × SameSlice w.queue w'.queue
