@@ -29,6 +29,7 @@ NUMBERS_OF.update({letter: [LAST_STOP, LAST_STOP, 999_999, 999_999] for letter i
 Command = collections.namedtuple('Command', 'letter numbers call')
 Verdict = collections.namedtuple('Verdict', 'right kind listing wanted')
 Listing = collections.namedtuple('Listing', 'lowest whole')
+Named = collections.namedtuple('Named', 'out_of_force letter query answer score')
 
 
 # Records and blocks
@@ -212,7 +213,11 @@ def told_steps(answer):
 
 
 class Post:
-    """A post with a day's events. It takes a line and the answer to it, judges the answer, and does what the line says."""
+    """A post with a day's events. It takes a line and the answer to it, judges the answer, and does what the line says.
+
+    `named` has each answer that rightly named a journey, with the events then out of force, the query's letter, the
+    query, and the lowest score; after a cut, the journey's own.
+    """
 
     def __init__(self, data):
         """Opens the bytes of a file; None stands for a file that can't be opened."""
@@ -221,6 +226,7 @@ class Post:
         self.following = followers(self.events)
         self.tried = lister.linked_lists(self.events) if len(self.events) <= MOST_TRIED else None
         self.listings = {}
+        self.named = []
 
     def judge(self, line, answer):
         """The verdict on an answer: whether it is right, its kind, which listing told so, and what was wanted."""
@@ -275,6 +281,9 @@ class Post:
             return Verdict(False, 'go', way, told(self.events, steps).decode())
         score = lister.scores(self.events, steps)[4][MEASURES.index(command.letter)]
         good = score == lowest if way == 'whole' else lowest is None or score <= lowest
+        if good:
+            wanted_score = lowest if way == 'whole' else score
+            self.named.append(Named(frozenset(self.out_of_force), command.letter, query, answer, wanted_score))
         return Verdict(good, 'go', way, wanted + '; this one has %s' % (score,))
 
     def listing(self, query):

@@ -1,7 +1,7 @@
 #!/usr/bin/env python3
 """The program `post` by plain means, for trying tools/trials. Written from docs/; it stands on no other file.
 
-It opens `day.tt` in the current folder, reads commands from standard input and prints a line for each.
+It opens `day.tt` in the current folder, reads commands from standard input and answers each with a line before it reads the next.
 
 A best journey is found so: for each event that a journey may begin with, the lightest way on to each later event, for
 those called already and for those not yet. Begin and end are then given, so the lightest way has the lowest score
@@ -185,11 +185,9 @@ def main():
     if fault:
         print(fault)
         return
-    out, lines = set(), sys.stdin.buffer.read().split(b'\n')
-    if lines[-1] == b'':
-        lines.pop()
-    for line in lines:
-        print(answer(line, day, out))
+    out = set()
+    for line in sys.stdin.buffer:
+        print(answer(line.removesuffix(b'\n'), day, out), flush=True)
 
 
 if __name__ == '__main__':

@@ -12,6 +12,11 @@ use Rattle.blocks.specs.Loads.{Filled, Filling, add_rules, added, begun, event_b
 use Rattle.blocks.specs.Rows.{count, records_of}
 use Rattle.blocks.proofs.Lists.{behind_by_place, last_event_push, rules_behind}
 use Rattle.blocks.proofs.Records.{first_chunks-append, first_chunks_push, take-first_chunks}
+use borrow.Rule.Slice.PartMut.{put_mid}
+
+-- a record that is written over a part of memory
+pub placed_part : (m r ys : List ℕ) (i a k : ℕ) → ys ≡ r → i ≡ a → length r ≡ k → placed m i r ≡ put_mid a k m ys
+placed_part m r ys i a k e f g = rw (e, f, g, drop-drop k a m) refl
 
 -- memory that holds n records, rs, and was handed over as o; they break no rule, whatever more stands behind them
 record Holds (o : List ℕ) (rs : List (List ℕ)) (m : List ℕ) (n : ℕ) : Type 0 where

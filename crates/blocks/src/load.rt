@@ -24,29 +24,6 @@ fn last_event(rows: &[[u8; 16]]) -> Option<Event>
     rows.last().map(|row| fields(row))
 }
 
-// The event of a record, refused with the first rule broken where it may not be added to memory that holds `held` records.
-fn check_next(memory: &[u8], held: usize, bytes: &[u8]) -> Result<Event, Fault>
-    ensures { result ≡ judged (add_rules memory.now held bytes.now) (event_in bytes.now) }
-{
-    let row = <&[u8; 16]>::try_from(bytes).map_err(|_| Fault::PartialRecord { place: held })?;
-    let (rows, _) = memory.as_chunks::<RECORD_BYTES>();
-    if held >= MOST_EVENTS || held >= rows.len() {
-        return Err(Fault::TooManyRecords { place: held });
-    }
-    read_after(last_event(&rows[..held]), held, row)
-}
-
-// Writes a record behind the `held` records in memory, or refuses it and writes nothing.
-fn append(memory: &mut [u8], held: usize, bytes: &[u8]) -> Result<(), Fault>
-    ensures value { result ≡ judged (add_rules memory.old held bytes.now) tt }
-    ensures after { memory.new ≡ (if is_ok result then placed memory.old (16 * held) bytes.now else memory.old) }
-{
-    check_next(memory, held, bytes)?;
-    let at = held * RECORD_BYTES;
-    memory[at..at + RECORD_BYTES].copy_from_slice(bytes);
-    Ok(())
-}
-
 impl<'a> Load<'a> {
     // Begins a load: no record is held, and the memory is as handed over.
     pub fn new(memory: &'a mut [u8]) -> Load<'a>
@@ -57,7 +34,21 @@ impl<'a> Load<'a> {
         Load { memory, held: 0 }
     }
 
-    // Adds a record behind those held, or refuses it and changes nothing.
+    // The event of a record, refused with the first rule broken where it may not be added behind those held.
+    fn check_next(&self, bytes: &[u8]) -> Result<Event, Fault>
+        ensures { result ≡ judged (add_rules self.now.memory.now self.now.held bytes.now) (event_in bytes.now) }
+    {
+        let held = self.held;
+        let row = <&[u8; 16]>::try_from(bytes).map_err(|_| Fault::PartialRecord { place: held })?;
+        let (rows, _) = self.memory.as_chunks::<RECORD_BYTES>();
+        if held >= MOST_EVENTS || held >= rows.len() {
+            return Err(Fault::TooManyRecords { place: held });
+        }
+        read_after(last_event(&rows[..held]), held, row)
+    }
+
+    // Adds a record behind those held, or refuses it and changes nothing. By bytes: nothing is said of what a row of
+    // `as_chunks_mut` ends as.
     pub fn add(&mut self, bytes: &[u8]) -> Result<(), Fault>
         ensures value { result ≡ judged (add_rules self.old.memory.now self.old.held bytes.now) tt }
         ensures after { self.new.memory.now ≡ (if is_ok result then placed self.old.memory.now (16 * self.old.held) bytes.now else self.old.memory.now) }
@@ -65,9 +56,10 @@ impl<'a> Load<'a> {
         ensures filling { (o : List ℕ) (rs : List (List ℕ)) → Filling o rs self.old.memory.now self.old.held → Filling o (rs ++ accepted result bytes.now) self.new.memory.now self.new.held }
         ensures named { self.new.memory.ghost_name ≡ self.old.memory.ghost_name }
     {
-        let Load { memory, held } = self;
-        append(memory, *held, bytes)?;
-        *held += 1;
+        self.check_next(bytes)?;
+        let at = self.held * RECORD_BYTES;
+        self.memory[at..at + RECORD_BYTES].copy_from_slice(bytes);
+        self.held += 1;
         Ok(())
     }
 

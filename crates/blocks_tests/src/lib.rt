@@ -5,7 +5,8 @@ use blocks::{Block, Load};
 use faults::Report;
 use records::{Event, read, write};
 
-// A ride 1-2 100+20, an opening at 2, minute 125, and a ride 2-3 125+30.
+// A ride 1-2 100+20, an opening at 2, minute 125, and a ride 2-3 125+30. The tests of sources have the same bytes: data of a test that
+// is read by itself.
 const GOOD: [u8; 48] = [
     2, 1, 2, 0, 0, 0, 0, 100, 0, 20, 0, 0, 0, 0, 0, 0, //
     1, 2, 0, 0, 0, 0, 0, 125, 0, 0, 0, 0, 0, 0, 0, 0, //

@@ -65,13 +65,13 @@ fn limit(field: Field) -> u32
     ensures { result ≡ most field }
 {
     match field {
-        Field::From { .. } => MOST_STOP,
-        Field::To { .. } => MOST_STOP,
+        Field::From { .. } | Field::To { .. } => MOST_STOP,
         _ => MOST_NUMBER,
     }
 }
 
-// Whether a number that is `value` so far may go on as `longer`: not behind a leading 0, and not past its limit.
+// Whether a number that is `value` so far may go on as `longer`: not behind a leading 0, and not past its limit. Here and in the next two
+// functions field and value come apart, which are what `State::Within` holds: a case of an enum is no type.
 fn may_go_on(field: Field, value: u32, longer: u32) -> bool
     ensures { result ≡ (nat_lt 0 value && nat_le longer (most field)) }
 {
@@ -80,7 +80,8 @@ fn may_go_on(field: Field, value: u32, longer: u32) -> bool
 
 // The state behind a further digit of a number, none where the number may not go on with it.
 fn further_digit(field: Field, value: u32, byte: u8) -> Option<State>
-    requires { (Bounded (State.Within field value)) × (IsInRange 48 57 byte) }
+    requires bounded { Bounded (State.Within field value) }
+    requires digit { IsInRange 48 57 byte }
     ensures { Moved (State.Within field value) byte result }
 {
     let longer = value * 10 + u32::from(byte - b'0');
@@ -99,8 +100,7 @@ fn space_after(field: Field, value: u32) -> Option<State>
     ensures { Moved (State.Within field value) 32 result }
 {
     let next = match field {
-        Field::Withdrawn => return None,
-        Field::Reinstated => return None,
+        Field::Withdrawn | Field::Reinstated => return None,
         Field::From { criterion } => State::Before {
             field: Field::To {
                 criterion,
@@ -145,7 +145,8 @@ fn space_after(field: Field, value: u32) -> Option<State>
     Some(next)
 }
 
-// The state behind one byte more, none where no command goes on with it.
+// The state behind one byte more, none where no command goes on with it. It is a rule of the project that the letters are cases of the
+// machine, matched together with its state, so no `TryFrom` makes a measure of its letter.
 fn step(state: State, byte: u8) -> Option<State>
     requires { Bounded state }
     ensures { Moved state byte result }

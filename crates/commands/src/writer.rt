@@ -21,8 +21,7 @@ fn is_valid(command: Command) -> bool
     ensures { MatchBool result (Valid command) (Valid command → ⊥) }
 {
     match command {
-        Command::Withdraw { event } => event <= MOST_NUMBER,
-        Command::Reinstate { event } => event <= MOST_NUMBER,
+        Command::Withdraw { event } | Command::Reinstate { event } => event <= MOST_NUMBER,
         Command::Tally => true,
         Command::Find { query, .. } => query.open <= MOST_NUMBER && query.close <= MOST_NUMBER,
     }
@@ -75,7 +74,6 @@ fn push_text(line: &mut Line, command: Command) -> Result<(), CapacityError>
     }
 }
 
-// As the writing of a reply, but for what is put in the line and tested first; the bytes go to memory that is handed over.
 // Writes a command's text to the front of `out` and tells its length; none, with nothing written, where a
 // number has more than six digits or there is no room.
 pub fn write(command: Command, out: &mut [u8]) -> Option<usize>
@@ -85,8 +83,6 @@ pub fn write(command: Command, out: &mut [u8]) -> Option<usize>
         return None;
     }
     let mut line = Line::new();
-    match push_text(&mut line, command) {
-        Ok(()) => copy_out(&line, out),
-        Err(_) => None,
-    }
+    push_text(&mut line, command).ok()?;
+    copy_out(&line, out)
 }

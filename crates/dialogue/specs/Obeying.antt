@@ -15,6 +15,8 @@
 --                          measure of the letter
 --     Interprets b line reply a  a line that spells a command is obeyed; any other is refused with 11, and everything
 --                          is as found; the reply's line has 8,192 bytes at most
+--     Responds b line m r a m'  a line is interpreted, and its reply's line written over the front of m, or there is no room:
+--                          the answer r tells which, and how many bytes
 use Rattle.std.specs.Prelude.{◌≡◌, ℕ, ◌≤◌, Bool, List, length, pos, ◌-ℤ◌, Ok, Err, Option, Result}
 use Rattle.std.specs.Result.{result_map_both}
 use Rattle.faults.specs.declared.Fault.{Fault}
@@ -38,7 +40,7 @@ use Rattle.commands.specs.Grammar.{Spells}
 use Rattle.commands.specs.Grammar as grammar
 use Rattle.replies.specs.declared.reply.Reply.{Reply}
 use Rattle.replies.specs.declared.reply.Reply.TheVariants.{Accepted, Count, Journey}
-use Rattle.replies.specs.Printed.{printed}
+use Rattle.replies.specs.Printed.{Wrote, printed}
 use Rattle.timetable_post.specs.Calls.{Does, Notice, noticed, reinstatement, tallied, withdrawal}
 use Rattle.timetable_post.specs.Days.{CarriesOn}
 use Rattle.timetable_post.specs.Queries.{Handed, Queried}
@@ -132,3 +134,8 @@ module _ {S X Y U V Z : Type 0} (events : S → List Event) (place : S → ℕ) 
     pub obeys : (c : Command) → Spells line c → Obeys b c reply a
     pub refuses : (f : Fault) → grammar.Refused line f → (reply ≡ Err f) × (a ≡ b)
     pub short : length (printed reply a.steps) ≤ 8192
+
+  pub record Responds (b : Desk S X Y U V Z) (line m : List ℕ) (r : Option ℕ) (a : Desk S X Y U V Z) (m' : List ℕ) : Type 0 where
+    pub reply : Result Reply Fault
+    pub interprets : Interprets b line reply a
+    pub wrote : Wrote reply a.steps m m' r

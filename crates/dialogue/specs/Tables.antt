@@ -1,5 +1,5 @@
 -- The tables that a post works with. Assumes nothing.
---     SamePostTables t t'  each of them is the memory that it was, and as long as it was
+--     SamePostTables t t'  each of them is the memory that it was, and as long as it was; it compares two moments, which no type can
 use Rattle.steps.specs.Tables.{SameSlice}
 use Rattle.dialogue.specs.declared.tables.PostTables.{PostTables}
 

@@ -2,8 +2,9 @@
 ghost use Rattle.std.specs.Prelude.{◌≡◌};
 ghost use Rattle.measures.specs.Six.{fastest};
 ghost use Rattle.timetable_post.specs.Queries.{Queried};
-ghost use Rattle.dialogue.specs.Obeying.{Interprets, Obeys, by_number, by_trip, desk, query_reply};
+ghost use Rattle.dialogue.specs.Obeying.{Interprets, Obeys, Responds, by_number, by_trip, desk, query_reply};
 ghost use Rattle.dialogue.specs.Tables.{SamePostTables};
+ghost use Rattle.replies.specs.Printed.{Wrote};
 
 use crate::tables::PostTables;
 use commands::{Command, Criterion, parse};
@@ -12,7 +13,7 @@ use journeys::{Query, six_measures_are_plain};
 use measures::{
     EarliestArrival, Fastest, FewestRides, LatestDeparture, LeastRiding, LeastWaiting, Measure,
 };
-use replies::Reply;
+use replies::{Reply, write};
 use search::{Answer, Tables};
 use sources::Source;
 use timetable_post::Post;
@@ -107,4 +108,26 @@ pub fn answer<S: Source + Drop>(
     ensures same { SamePostTables tables.old tables.new }
 {
     obey(post, parse(line)?, tables)
+}
+
+// Answers a line, and writes the line of the reply to the front of `out`; tells how many bytes it has, or none, with nothing
+// written, where it is longer than `out`.
+pub fn respond<S: Source + Drop>(
+    post: &mut Post<S>,
+    line: &[u8],
+    tables: &mut PostTables<'_>,
+    out: &mut [u8],
+) -> Option<usize>
+    ensures responds { Responds S.events S.place (desk post.old.source post.old.marks tables.old) line.now out.old result (desk post.new.source post.new.marks tables.new) out.new }
+    ensures same { SamePostTables tables.old tables.new }
+{
+    let reply = answer(post, line, tables);
+    write_line(reply, tables, out)
+}
+
+// Writes the line of a reply to the front of `out`, with the steps that stand in the tables.
+fn write_line(reply: Result<Reply, Fault>, tables: &PostTables<'_>, out: &mut [u8]) -> Option<usize>
+    ensures { Wrote reply tables.now.steps.now out.old out.new result }
+{
+    write(reply, tables.steps, out)
 }

@@ -1,8 +1,9 @@
 -- Tests in a fixed order, of which the first that fails decides. Assumes nothing.
 --     Rule             a test, with the fault that is met where it is false
 --     first_broken rs  the fault of the first rule whose test is false, none where all are true
---     kept rs          every test is true
+--     Kept rs          every test is true
 --     judged rs x      x where every test is true, else the first broken rule's fault
+--     judged_by o x    x where o has no fault, else that fault
 use Rattle.std.specs.Prelude.{◌≡◌, Bool, cond, List, [], ◌∷◌, Some, None, Ok, Err, Option, Result}
 use Rattle.faults.specs.declared.Fault.{Fault}
 

@@ -52,15 +52,12 @@ pub struct Slots<L> {
     pub step: usize,
 }
 
-// A table with the same in each slot; by pushes: `vec!` clones its value, of which nothing is known, and what `resize_with` says of
-// its closure's calls left the equation open.
+// A table with the same in each slot.
 fn filled<T: Copy>(heap: Global, slots: usize, value: T) -> Result<Vec<T>, AllocError>
     ensures { IfOk result (λ table. table.items ≡ replicate slots value) }
 {
     let mut table = Vec::new(heap);
-    for _ in 0..slots {
-        table.push(value)?;
-    }
+    table.resize(slots, value)?;
     Ok(table)
 }
 

@@ -1,5 +1,7 @@
 -- What the judge has at hand of a list of numbers is what the definitions say of it.
-use Rattle.std.proofs.Common.{◌≡◌, ℕ, ◌-◌, ◌<◌, ◌≤◌, Bool, List, [], ◌∷◌, length, get_or, sym, refl, ap, ◌∙◌, subst, arith}
+use Rattle.std.proofs.Common.{◌≡◌, ℕ, ◌-◌, ◌<◌, ◌≤◌, Bool, List, [], ◌∷◌, length, get_or, Some, sym, refl, ap, ◌∙◌, subst, arith}
+use Rattle.std.proofs.lemmas.Option.{get_or_from_slice_get, slice_get_within}
+use Rattle.std.specs.List.{slice_get}
 use Rattle.records.specs.declared.event.Event.{Event}
 use Rattle.records.specs.Events.{time_of}
 use Rattle.measures.specs.Measures.{Ops, Score}
@@ -35,12 +37,15 @@ same_verdict : (b b' f f' r r' n n' : ℕ) (s s' : Score) → b ≡ b' → f ≡
 same_verdict b b' f f' r r' n n' s s' hb hf hr hn hs = cc
 
 -- the judge's last test, on the two ends and the totals that it has at hand
-module _ (es : List Event) (p : ℕ → Bool) (q : Query) (js : List ℕ) (d e : Event) (t : Totals) (some : 0 < length js) (hd : d ≡ numbered es (get_or js 0 0)) (he : e ≡ numbered es (get_or js (length js - 1) 0)) (ht : t ≡ totals_of es js) where
+module _ (es : List Event) (p : ℕ → Bool) (q : Query) (js : List ℕ) (d e : Event) (t : Totals) (i j : ℕ) (hi : slice_get js 0 ≡ Some i) (hj : slice_get js (length js - 1) ≡ Some j) (hd : d ≡ numbered es i) (he : e ≡ numbered es j) (ht : t ≡ totals_of es js) where
+  some : 0 < length js
+  some = slice_get_within js 0 i hi
+
   begins : d ≡ numbered es (first js)
-  begins = hd ∙ ap (numbered es) (sym (first_place js))
+  begins = hd ∙ ap (numbered es) (sym (first_place js ∙ get_or_from_slice_get js 0 i 0 hi))
 
   ends : e ≡ numbered es (final js)
-  ends = he ∙ ap (numbered es) (sym (final_place js some))
+  ends = he ∙ ap (numbered es) (sym (final_place js some ∙ get_or_from_slice_get js (length js - 1) j 0 hj))
 
   asked_here : Asked q (numbered es (first js)) (numbered es (final js)) (totals_of es js) → Asked q d e t
   asked_here a =

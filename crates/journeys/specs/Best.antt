@@ -1,5 +1,6 @@
 -- The best score of the journeys that fit. Assumes nothing.
 -- es, p, q and m are as for journeys and scores.
+--     Least m es p q s    no journey that fits has a score lower than s
 --     Best m es p q s     s is the score of a journey that fits, and none that fits has a lower one
 --     NothingFits es p q no journey fits
 use Rattle.std.specs.Prelude.{◌≡◌, ℕ, Bool, List}

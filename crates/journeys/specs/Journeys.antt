@@ -7,10 +7,14 @@
 --     end_of e         a ride's arrival, an opening's minute
 --     ready e          the moment from which the traveller can go on after e
 --     minutes e        a ride's duration; an opening takes no riding
+--     one_if_ride e    1 for a ride, else 0
+--     one_if_opening e  1 for an opening, else 0
+--     Before R x xs    R holds of x and the first of xs, if there is one
 --     Chained R xs     R holds of any two neighbours in xs
 --     Link es j k      event k is where event j leaves the traveller, and not before the traveller is ready
 --     first js         the first number
 --     final js         the last number
+--     final_from j js  the last of j and js
 --     total f js       the sum of f over the numbers
 --     beginning es js  when it begins: at the first event's time
 --     ending es js     when it ends: at the last ride's arrival, or at the opening's minute if that comes last
@@ -19,6 +23,7 @@
 --     openings es js   how many openings it has
 --     waiting es js    ending less beginning less riding
 --     gaps es js       the minutes between the end of each event and the time of the next, summed
+--     gaps_from es j js  the same, from event j on
 --     Journey es p q js  js is a journey that q asks for: rising numbers of events in force, each
 --                      linked to the next, with at least one ride, with exactly one opening if a call is
 --                      wanted and none otherwise, from the stop that q leaves to the stop that it reaches

@@ -1,7 +1,8 @@
 // Judging a list of event numbers: whether it is a journey that fits, and what it scores.
-ghost use Rattle.std.specs.Prelude.{◌≡◌, ◌+◌, ◌^◌, ◌<◌, ◌≤◌, ◌&&◌, length, drop, Decides, nat_lt};
+ghost use Rattle.std.specs.Prelude.{◌≡◌, ◌+◌, ◌^◌, ◌<◌, ◌≤◌, ◌&&◌, length, drop, Decides, nat_lt, Some};
 ghost use Rattle.journeys.specs.Formulas.{along};
 ghost use Rattle.journeys.specs.Journeys.{Link, minutes, numbered, one_if_opening, one_if_ride};
+ghost use Rattle.journeys.specs.Shown.{shown};
 ghost use Rattle.journeys.specs.Verdicts.{Asked, Chain, in_force, Judged, Next, totals_of};
 
 use crate::query::Query;
@@ -22,6 +23,8 @@ pub struct Verdict {
 
 // In words, with the score in brackets.
 impl fmt::Display for Verdict {
+    ghost output = { λ verdict. Some (shown verdict) };
+
     fn fmt<W: fmt::Write>(&self, f: &mut fmt::Formatter<W>) -> fmt::Result {
         let Verdict {
             begin,
@@ -31,10 +34,8 @@ impl fmt::Display for Verdict {
             score,
         } = *self;
         let (first, second) = score;
-        write!(
-            f,
-            "from {begin} to {end}, riding {riding}, rides {rides}, score ({first}; {second})"
-        )
+        write!(f, "from {begin} to {end}, riding {riding}, rides {rides}")?;
+        write!(f, ", score ({first}; {second})")
     }
 }
 
@@ -46,7 +47,8 @@ struct Totals {
     openings: usize,
 }
 
-// The event with a number; beyond the list, an opening that no one can use.
+// The event with a number; beyond the list, an opening that no one can use. Sources have the same opening with another meaning, in
+// slots of a table that are not filled.
 fn event_numbered(events: &[Event], number: usize) -> Event
     ensures { result ≡ numbered events.now number }
 {
@@ -111,30 +113,24 @@ fn is_chain(events: &[Event], marks: &[bool], steps: &[usize]) -> bool
     true
 }
 
-// The totals with one event more. There are fewer than 2 ^ 64 events, of at most 65,535 minutes each.
-fn with_event(totals: Totals, event: Event) -> Totals
-    requires { (totals.riding < 2 ^ 100) × ((totals.rides < 2 ^ 63) × (totals.openings < 2 ^ 63)) }
-    ensures riding { result.riding ≡ totals.riding + minutes event }
-    ensures rides { result.rides ≡ totals.rides + one_if_ride event }
-    ensures openings { result.openings ≡ totals.openings + one_if_opening event }
-    ensures bound { minutes event ≤ 65535 }
-{
-    let Totals {
-        riding,
-        rides,
-        openings,
-    } = totals;
-    match event {
-        Event::Opening { .. } => Totals {
-            riding,
-            rides,
-            openings: openings + 1,
-        },
-        Event::Ride { duration, .. } => Totals {
-            riding: riding + u128::from(duration),
-            rides: rides + 1,
-            openings,
-        },
+impl Totals {
+    // Takes one event more. There are fewer than 2 ^ 64 events, of at most 65,535 minutes each.
+    fn take(&mut self, event: Event)
+        requires riding { self.old.riding < 2 ^ 100 }
+        requires rides { self.old.rides < 2 ^ 63 }
+        requires openings { self.old.openings < 2 ^ 63 }
+        ensures riding { self.new.riding ≡ self.old.riding + minutes event }
+        ensures rides { self.new.rides ≡ self.old.rides + one_if_ride event }
+        ensures openings { self.new.openings ≡ self.old.openings + one_if_opening event }
+        ensures bound { minutes event ≤ 65535 }
+    {
+        match event {
+            Event::Opening { .. } => self.openings += 1,
+            Event::Ride { duration, .. } => {
+                self.riding += u128::from(duration);
+                self.rides += 1;
+            }
+        }
     }
 }
 
@@ -144,7 +140,7 @@ fn add_up(events: &[Event], steps: &[usize]) -> Totals
 {
     let mut totals = Totals::default();
     for step in steps {
-        totals = with_event(totals, event_numbered(events, *step));
+        totals.take(event_numbered(events, *step));
     }
     totals
 }
@@ -181,11 +177,12 @@ pub fn judge<M: Measure>(
 ) -> Option<Verdict>
     ensures { Judged M.ops events.now (in_force marks.now) query steps.now result }
 {
-    if steps.len() == 0 || !is_chain(events, marks, steps) {
+    let (start, goal) = (*steps.first()?, *steps.last()?);
+    if !is_chain(events, marks, steps) {
         return None;
     }
-    let first = event_numbered(events, steps[0]);
-    let last = event_numbered(events, steps[steps.len() - 1]);
+    let first = event_numbered(events, start);
+    let last = event_numbered(events, goal);
     let totals = add_up(events, steps);
     if !meets(query, first, last, totals) {
         return None;

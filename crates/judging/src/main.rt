@@ -12,6 +12,7 @@ use measures::{
 };
 use scripts::Day;
 use std::alloc::Global;
+use std::default::MadeWith;
 use std::io::{BufRead, BufReader};
 
 // The words of a line before the first step.
@@ -66,10 +67,7 @@ fn steps(heap: Global, line: &str) -> anyhow::Result<Vec<usize>> {
 }
 
 fn main(rt: HostRuntime) -> anyhow::Result<()> {
-    let mut day = Day {
-        events: Vec::new(rt.alloc()),
-        marks: Vec::new(rt.alloc()),
-    };
+    let mut day = Day::made_with(rt.alloc());
     for line in BufReader::new(rt.alloc(), rt.stdin())?.lines(rt.alloc()) {
         let line = line?;
         if let Some(query) = day.take(line.as_str().parse()?)? {

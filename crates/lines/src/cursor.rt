@@ -53,7 +53,8 @@ impl Cursor {
     }
 }
 
-// A cursor for each line of a table.
+// A cursor for each line of a table. The cursors stand beside the lines, which never change, so that no call changes the list is
+// plain.
 #[derive(Clone, Copy)]
 pub(crate) struct Cursors {
     pub table: [Cursor; MOST_LINES],

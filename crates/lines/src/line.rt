@@ -1,4 +1,5 @@
-// A line record: a ride that is repeated at an interval.
+// A line record: a ride that is repeated at an interval. It differs from the record of an event field by field and limit by limit,
+// not in a size or a type; a trait of rows would hold both texts and a law more.
 ghost use Rattle.std.specs.Prelude.{◌≡◌, ◌+◌, ◌≤◌, ◌++◌};
 ghost use Rattle.faults.specs.Rules.{judged};
 ghost use Rattle.lines.specs.Lines.{few_rides, last_arrival, line_in, line_limits, line_rules, spare_clear};

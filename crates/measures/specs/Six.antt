@@ -1,4 +1,5 @@
 -- The six measures, each by its four functions. Sums in labels stop at 2 ^ 32 - 1. Assumes nothing.
+--     capped a b       the sum of a and b, or 2 ^ 32 - 1 where it is above that
 --     earliest         e: end; 999,999 − begin. The label is the begin
 --     latest           l: 999,999 − begin; end. The label is the begin
 --     fastest          f: end − begin; riding. The label is begin and riding

@@ -2,11 +2,10 @@
 #![tactic(auto)]
 
 use anyhow::anyhow;
-use dialogue::{PostTables, answer};
-use faults::Fault;
+use dialogue::{PostTables, respond};
 use heap_tables::{HeapTables, Lengths, Slots};
 use records::MOST_EVENTS;
-use replies::{LONGEST_LINE, Reply, write};
+use replies::{LONGEST_LINE, write};
 use sources::RecordSource;
 use std::fs::File;
 use std::io::{BufRead, BufReader, Read, Write};
@@ -24,17 +23,12 @@ fn read_day(rt: &HostRuntime) -> anyhow::Result<Vec<u8>> {
     Ok(bytes)
 }
 
-// Prints a reply at once.
-fn print_reply(
-    out: &mut impl Write,
-    reply: Result<Reply, Fault>,
-    steps: &[usize],
-) -> anyhow::Result<()> {
-    let mut line = [0; LONGEST_LINE];
-    let Some(length) = write(reply, steps, &mut line) else {
+// Prints the line of a reply at once, which stands at the front of a buffer.
+fn print_line(out: &mut impl Write, line: &[u8], length: Option<usize>) -> anyhow::Result<()> {
+    let Some(line) = length.and_then(|length| line.get(..length)) else {
         return Err(anyhow!("a reply is longer than a line"));
     };
-    out.write_all(&line[0..length])?;
+    out.write_all(line)?;
     out.flush()?;
     Ok(())
 }
@@ -59,9 +53,10 @@ fn converse(rt: &HostRuntime, source: RecordSource) -> anyhow::Result<()> {
     };
     let mut post = Post::put_up(source);
     let mut out = rt.stdout();
+    let mut reply = [0; LONGEST_LINE];
     for line in BufReader::new(rt.alloc(), rt.stdin())?.split(rt.alloc(), b'\n') {
-        let reply = answer(&mut post, &line?, &mut tables);
-        print_reply(&mut out, reply, tables.steps)?;
+        let length = respond(&mut post, &line?, &mut tables, &mut reply);
+        print_line(&mut out, &reply, length)?;
     }
     Ok(())
 }
@@ -69,6 +64,10 @@ fn converse(rt: &HostRuntime, source: RecordSource) -> anyhow::Result<()> {
 fn main(rt: HostRuntime) -> anyhow::Result<()> {
     match RecordSource::open(&read_day(&rt)?) {
         Ok(source) => converse(&rt, source),
-        Err(fault) => print_reply(&mut rt.stdout(), Err(fault), &[]),
+        Err(fault) => {
+            let mut reply = [0; LONGEST_LINE];
+            let length = write(Err(fault), &[], &mut reply);
+            print_line(&mut rt.stdout(), &reply, length)
+        }
     }
 }

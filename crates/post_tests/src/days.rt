@@ -4,20 +4,17 @@ use faults::Fault;
 use lines::LineSource;
 use records::write;
 use sources::{RecordSource, Source};
-use std::alloc::Global;
 use std::iter;
-use std::test::Fail;
-use worked_scores::worked_events;
+use worked_scores::{WORKED_LINES, worked_events};
 
-// Two lines: 1-2 from 100 on, every 15 minutes, 3 rides of 20; and 2-3 from 115 on, every 30 minutes, 2 rides of 10.
-pub fn two_lines(heap: Global) -> Result<LineSource, Fail> {
-    let mut bytes = Vec::new(heap);
-    bytes.extend_from_slice(&[3, 1, 2, 0, 0, 0, 0, 100, 0, 20, 0, 15, 0, 3, 0, 0])?;
-    bytes.extend_from_slice(&[3, 2, 3, 0, 0, 0, 0, 115, 0, 10, 0, 30, 0, 2, 0, 0])?;
-    Ok(LineSource::open(&bytes)?)
+// The two lines of the worked day.
+pub fn two_lines() -> Result<LineSource, Fault> {
+    LineSource::open(&WORKED_LINES)
 }
 
-// The records of the worked day.
+// The records of the worked day, loaded into memory, which is what a load is there for; other programs put them in a vector. The
+// programs `worked_day` and `searching` have these few lines too: one text for all would be public, and would have to say what a
+// refusal leaves in the middle.
 pub fn worked_day() -> Result<RecordSource, Fault> {
     let mut memory = [0; 112];
     let mut load = Load::new(&mut memory);

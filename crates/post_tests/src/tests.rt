@@ -86,7 +86,7 @@ fn lines_through_notices(rt: HostRuntime) -> Result<(), Fail> {
         (L, 2, told(130, 150, 20, 1, (999_869, 150), 5), &[3]),
     ];
     let mut tables = spoilt(rt.alloc(), [10, 512, 10, 5])?;
-    let mut post = Post::put_up(two_lines(rt.alloc())?);
+    let mut post = Post::put_up(two_lines()?);
     check_rows(&rt, &mut post, &mut tables, &all_in_force);
     post.withdraw(1)?;
     assert_eq!(rt; post.tally(), 1);

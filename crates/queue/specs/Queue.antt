@@ -11,7 +11,7 @@
 -- The last two arguments of each are the slots and the count that the call leaves. Of their fields
 --     room, full, none    say when it comes to this
 --     count, long         what the count is after, and that there are as many slots
---     bag                 no element is lost and none is made; `Shuffled xs ys` is the library's: ys is a rearrangement of xs
+--     bag                 no element is lost and none is made; `IsPermutation xs ys` is the library's: ys is a rearrangement of xs
 --     beyond              the slots that are not in use are as found, and the one that a take frees holds what went out
 --     heaped              heap order is kept
 --     least, only         what a queue in heap order gives is least, and the only least one where the order is connected

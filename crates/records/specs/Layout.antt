@@ -3,11 +3,13 @@
 --     half bs i        the number in the two bytes from i, highest first
 --     word bs i        the number in the four bytes from i, highest first
 --     event_in bs      the event that the fields of a record give
+--     is_opening bs, is_ride bs  the kind is 1, or 2
 --     spare bs         the bytes that its kind does not use, a ride's where it is not an opening's
 --     zeros bs         every byte is 0
 --     record_rules p bs the rules that a record obeys, at place p: its kind is an opening's or a
 --                      ride's, its spare bytes are 0, its event is within the limits
 --     reading p bs     what reading a record at place p answers
+--     bytes2 n, bytes4 n  the number n in two bytes, and in four, highest first
 --     layout e         the sixteen bytes that record an event
 --     writing e        what writing an event answers
 use Rattle.std.specs.Prelude.{ℕ, ◌+◌, ◌*◌, ◌/◌, ◌%◌, Bool, cond, ◌||◌, List, [], ◌∷◌, ◌++◌, replicate, Result, ◌==◌, slice_index}

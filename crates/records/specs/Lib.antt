@@ -1,3 +1,4 @@
 pub mod Events
 pub mod Kinds
 pub mod Layout
+pub mod Shown

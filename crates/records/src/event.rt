@@ -1,8 +1,9 @@
 // An event and its limits.
-ghost use Rattle.std.specs.Prelude.{◌≡◌};
+ghost use Rattle.std.specs.Prelude.{◌≡◌, Some};
 ghost use Rattle.faults.specs.Rules.{judged};
 ghost use Rattle.records.specs.declared.event.Event.TheVariants.{Ride};
 ghost use Rattle.records.specs.Events.{limits, time_of, in_order};
+ghost use Rattle.records.specs.Shown.{shown};
 
 use faults::Fault;
 use std::fmt;
@@ -36,6 +37,8 @@ pub enum Event {
 
 // In words.
 impl fmt::Display for Event {
+    ghost output = { λ event. Some (shown event) };
+
     fn fmt<W: fmt::Write>(&self, f: &mut fmt::Formatter<W>) -> fmt::Result {
         match *self {
             Event::Opening { stop, minute } => write!(f, "opening at {stop}, minute {minute}"),

@@ -1,4 +1,5 @@
-// Sixteen bytes to an event and back.
+// Sixteen bytes to an event and back. Records of lines are read by a text of their own: the two differ field by field and limit
+// by limit, not in a size or a type, and a trait of rows would hold both texts and a law more.
 ghost use Rattle.std.specs.Prelude.{◌≡◌, ℕ, IfOk, Ok};
 ghost use Rattle.records.specs.Kinds.{spare_of};
 ghost use Rattle.records.specs.Layout.{event_in, layout, reading, writing, zeros};

@@ -4,6 +4,7 @@
 --     printed_journey a steps  the words of the journey that an answer names; it stands at the front of the step table
 --     printed_words r steps  the words of a reply, or of the fault in its place
 --     printed r steps      its line, with the byte that ends it
+--     Written r steps m m' n  the line of r was written over the front of m, n bytes long
 --     Wrote r steps m m' a the answer a tells how many bytes were written, the line of r, over the front of m, with the
 --                          rest of m as it was; none, with m as it was, where the line is longer than m or than
 --                          8,192 bytes

@@ -1,5 +1,5 @@
 // A reply, or why there is none, as a line of bytes.
-ghost use Rattle.std.specs.Prelude.{◌≡◌, [], ◌∷◌, ◌++◌, codes};
+ghost use Rattle.std.specs.Prelude.{◌≡◌, ◌≤◌, [], ◌∷◌, ◌++◌, length, codes, IfErr};
 ghost use Rattle.faults.specs.Numbered.{reported, told};
 ghost use Rattle.texts.specs.Pushing.{Pushed};
 ghost use Rattle.replies.specs.Printed.{Wrote, numbers, printed, printed_journey};
@@ -53,7 +53,8 @@ fn push_journey(line: &mut Line, answer: Answer, steps: &[usize]) -> Result<(), 
 
 // A fault's number, layer and place, as a line lists them; no `From`, as for a verdict.
 fn report_of(fault: Fault) -> [usize; 3]
-    ensures { result ≡ (reported fault).number ∷ (reported fault).layer ∷ (reported fault).place ∷ [] }
+    ensures value { result ≡ (reported fault).number ∷ (reported fault).layer ∷ (reported fault).place ∷ [] }
+    ensures short { length (told (reported fault)) ≤ 31 }
 {
     let Report {
         number,
@@ -63,12 +64,15 @@ fn report_of(fault: Fault) -> [usize; 3]
     [usize::from(number), usize::from(layer), place]
 }
 
-// Puts the words of a fault behind the text of a line.
+// Puts the words of a fault behind the text of a line. No clause says that a write to a formatter succeeds, so the `Display` of a
+// report can't stand here; the text has one definition, `told`.
 fn push_fault(line: &mut Line, fault: Fault) -> Result<(), CapacityError>
-    ensures { Pushed 8192 line.old.bytes (told (reported fault)) result line.new.bytes }
+    ensures pushed { Pushed 8192 line.old.bytes (told (reported fault)) result line.new.bytes }
+    ensures short { length (told (reported fault)) ≤ 31 }
 {
+    let report = report_of(fault);
     push(line, "no")?;
-    push_numbers(line, &report_of(fault))
+    push_numbers(line, &report)
 }
 
 // Puts the line of a reply, with the byte that ends it, behind the text of a line.
@@ -77,7 +81,8 @@ fn push_line(
     reply: Result<Reply, Fault>,
     steps: &[usize],
 ) -> Result<(), CapacityError>
-    ensures { Pushed 8192 line.old.bytes (printed reply steps.now) result line.new.bytes }
+    ensures pushed { Pushed 8192 line.old.bytes (printed reply steps.now) result line.new.bytes }
+    ensures short { IfErr reply (λ f. length (told (reported f)) ≤ 31) }
 {
     match reply {
         Ok(Reply::Accepted) => push(line, "ok")?,
@@ -88,15 +93,13 @@ fn push_line(
     push(line, "\n")
 }
 
-// As the writing of a command, but for what is put in the line; the bytes go to memory that is handed over.
 // Writes the line of a reply, with the byte that ends it, to the front of `out`, and tells its length; none, with
 // nothing written, where it is longer than `out` or than the longest line.
 pub fn write(reply: Result<Reply, Fault>, steps: &[usize], out: &mut [u8]) -> Option<usize>
-    ensures { Wrote reply steps.now out.old out.new result }
+    ensures wrote { Wrote reply steps.now out.old out.new result }
+    ensures short { IfErr reply (λ f. length (told (reported f)) ≤ 31) }
 {
     let mut line = Line::new();
-    match push_line(&mut line, reply, steps) {
-        Ok(()) => copy_out(&line, out),
-        Err(_) => None,
-    }
+    push_line(&mut line, reply, steps).ok()?;
+    copy_out(&line, out)
 }

@@ -1,17 +1,30 @@
 // A day of a script.
-ghost use Rattle.std.specs.Prelude.{◌≡◌, OnOk, OnErr};
+ghost use Rattle.std.specs.Prelude.{◌≡◌, [], OnOk, OnErr};
 ghost use Rattle.scripts.specs.Taking.{Taken, Withdrawn};
 
 use crate::line::DayLine;
 use journeys::Query;
 use records::Event;
-use std::alloc::AllocError;
+use std::alloc::{AllocError, Global};
+use std::default::MadeWith;
 
-// The events of a day, and a mark for each that is out of force.
+// The events of a day, and a mark for each that is out of force: marks of any length beside the events, as a search takes them.
 #[derive(Drop)]
 pub struct Day {
     pub events: Vec<Event>,
     pub marks: Vec<bool>,
+}
+
+// A day before its first line: it has no events, and no marks.
+impl MadeWith<Global> for Day {
+    ghost is_made_with = { λ day. (day.events.items ≡ []) × (day.marks.items ≡ []) };
+
+    fn made_with(heap: Global) -> Day {
+        Day {
+            events: Vec::new(heap),
+            marks: Vec::new(heap),
+        }
+    }
 }
 
 // Sets the mark of an event, with all marks before it.
@@ -52,10 +65,7 @@ mod tests {
 
     #[test]
     fn lines_in_turn(rt: HostRuntime) -> Result<(), Fail> {
-        let mut day = Day {
-            events: Vec::new(rt.alloc()),
-            marks: Vec::new(rt.alloc()),
-        };
+        let mut day = Day::made_with(rt.alloc());
         let asked = Query {
             from: 1,
             to: 3,

@@ -4,6 +4,9 @@
 //     r FROM TO DEPARTURE DURATION     its next event, a ride
 //     x NUMBER                         the event with this number is out of force
 //     j or q, FROM TO OPEN CLOSE CALL  a question about the day; what stands behind it is the program's to read
+ghost use Rattle.std.specs.Prelude.{Some};
+ghost use Rattle.scripts.specs.Errors.{told};
+
 use journeys::Query;
 use records::Event;
 use std::error::Error;
@@ -28,6 +31,8 @@ pub enum LineError {
 }
 
 impl fmt::Display for LineError {
+    ghost output = { λ error. Some (told error) };
+
     fn fmt<W: fmt::Write>(&self, f: &mut fmt::Formatter<W>) -> fmt::Result {
         f.write_str(match self {
             LineError::UnknownLetter => "a line begins with no known letter",

@@ -1,6 +1,6 @@
 -- The tables that a search is handed. Assumes nothing.
 --     lengths t            how long the tables t are
---     SameTables t t'      each of them is the memory that it was, and as long as it was
+--     SameTables t t'      each of them is the memory that it was, and as long as it was; it compares two moments, which no type can
 use Rattle.std.specs.Prelude.{length}
 use Rattle.steps.specs.Tables.{SameSlice}
 use Rattle.search.specs.declared.tables.Tables.{Tables}

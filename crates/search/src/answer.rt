@@ -4,7 +4,8 @@ ghost use Rattle.search.specs.Searches.{named};
 
 use journeys::Verdict;
 
-// What is said of the journey that is named, how many steps it has, and how many events were read.
+// What is said of the journey that is named, how many steps it has, and how many events were read. The number of steps stands
+// beside the step table, which is handed over.
 #[derive(Clone, Copy, PartialEq, Eq, Debug)]
 pub struct Answer {
     pub verdict: Verdict,

@@ -30,7 +30,9 @@ struct Arrived<L> {
     reads: usize,
 }
 
-// Reads the source and finds a journey with the lowest score, in tables that are long enough.
+// Reads the source and finds a journey with the lowest score, in tables that are long enough, which is one word, handed down from the
+// test that finds it. Source, marks and query come apart: a post lends two of its fields beside each other, and the query is its
+// caller's. A struct of loans would be made in one place and taken apart in the next.
 fn travel<S: Source, M: Measure>(
     source: &mut S,
     marks: &[bool],

@@ -28,7 +28,8 @@ fn is_later(event: Event, minute: u32) -> bool
     event.time() > minute
 }
 
-// Reads a source from its start, takes each event up to the query's close as a step, and tells how many there are.
+// Reads a source from its start, takes each event up to the query's close as a step, and tells how many there are. Source, marks and
+// query come apart, as for the whole search. That the tables are long enough is spelled out: `Work` has no step table to speak of.
 fn read_on<S: Source, M: Measure>(
     source: &mut S,
     marks: &[bool],
@@ -60,7 +61,7 @@ fn read_on<S: Source, M: Measure>(
 }
 
 // Reads a source up to the query's close, in tables that are long enough, and tells how many events there are up to it. That
-// they are is handed down from the test that found it.
+// they are is handed down from the test that found it. Source, marks and query come apart, as for the whole search.
 pub(crate) fn read_up<S: Source, M: Measure>(
     source: &mut S,
     marks: &[bool],

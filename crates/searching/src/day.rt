@@ -16,8 +16,9 @@ pub(crate) fn reads(day: &Day, close: u32) -> usize {
     in_time.saturating_add(1).min(day.events.len())
 }
 
-// Loads the records of the events into memory, and tells how many there are. The program `worked_day` shows the same with its
-// contract, which says nothing of a refusal.
+// Loads the records of the events into memory, and tells how many there are. The program `worked_day`, which shows the contract, and the
+// tests of the post have these few lines too: one text for all would be public, and would have to say what a refusal leaves in the
+// middle.
 fn store(memory: &mut [u8], events: &[Event]) -> Result<usize, Fault> {
     let mut load = Load::new(memory);
     for event in events {

@@ -21,6 +21,7 @@ use measures::{
 use scripts::Day;
 use search::CheckedQuery;
 use sources::RecordSource;
+use std::default::MadeWith;
 use std::io::{BufRead, BufReader};
 use tables::rubbish;
 
@@ -78,10 +79,7 @@ fn ask(rt: &HostRuntime, day: &Day, query: Query) -> anyhow::Result<()> {
 }
 
 fn main(rt: HostRuntime) -> anyhow::Result<()> {
-    let mut day = Day {
-        events: Vec::new(rt.alloc()),
-        marks: Vec::new(rt.alloc()),
-    };
+    let mut day = Day::made_with(rt.alloc());
     for line in BufReader::new(rt.alloc(), rt.stdin())?.lines(rt.alloc()) {
         if let Some(query) = day.take(line?.as_str().parse()?)? {
             ask(&rt, &day, query)?;

@@ -15,7 +15,8 @@ pub struct Counts {
 impl Counts {
     // Counts one event more.
     fn count(&mut self, event: Event)
-        requires { (self.old.openings < 1024) × (self.old.rides < 1024) }
+        requires openings { self.old.openings < 1024 }
+        requires rides { self.old.rides < 1024 }
         ensures openings { self.new.openings ≡ self.old.openings + (if is_opening event then 1 else 0) }
         ensures rides { self.new.rides ≡ self.old.rides + (if is_ride event then 1 else 0) }
     {

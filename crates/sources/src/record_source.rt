@@ -12,7 +12,8 @@ use blocks::Block;
 use faults::Fault;
 use records::{Event, MOST_EVENTS};
 
-// What stands in the part of a table that is not filled.
+// What stands in the part of a table that is not filled. The judge has the same opening with another meaning, for a number beyond
+// the list.
 const BLANK: Event = Event::Opening { stop: 0, minute: 0 };
 
 // The first `count` events of a table, which are a timetable's list, and a place among them. There is no heap, so the table

@@ -34,8 +34,8 @@ fn fill(bytes: &mut [u8], row: &[u8; 16]) {
 }
 
 // Three records in a row.
-fn rows(first: [u8; 16], second: [u8; 16], third: [u8; 16]) -> [u8; ROOM] {
-    let mut bytes = [0; ROOM];
+fn rows(first: [u8; 16], second: [u8; 16], third: [u8; 16]) -> [u8; 48] {
+    let mut bytes = [0; 48];
     let (places, _) = bytes.as_chunks_mut::<16>();
     for (place, row) in places.iter_mut().zip([first, second, third]) {
         *place = row;
@@ -49,7 +49,7 @@ fn opened_two(first: [u8; 16], second: [u8; 16]) -> Result<usize, Report> {
 }
 
 // Three lines that interleave: two of them depart at minute 130, and the last in the block departs first.
-fn three_lines() -> [u8; ROOM] {
+fn three_lines() -> [u8; 48] {
     rows(
         line(1, 2, 100, 20, 30, 3),
         line(2, 3, 130, 10, 15, 2),
@@ -57,8 +57,9 @@ fn three_lines() -> [u8; ROOM] {
     )
 }
 
-// A ride 1-2 100+20, an opening at 2, minute 125, and a ride 2-3 125+30.
-fn three_records() -> [u8; ROOM] {
+// A ride 1-2 100+20, an opening at 2, minute 125, and a ride 2-3 125+30. The tests of blocks have the same bytes: data of a test that
+// is read by itself.
+fn three_records() -> [u8; 48] {
     rows(
         [2, 1, 2, 0, 0, 0, 0, 100, 0, 20, 0, 0, 0, 0, 0, 0],
         [1, 2, 0, 0, 0, 0, 0, 125, 0, 0, 0, 0, 0, 0, 0, 0],
@@ -78,7 +79,7 @@ mod tests {
 
     #[test]
     fn lines_interleave(rt: HostRuntime) -> Result<(), Fail> {
-        let mut source = LineSource::open(&three_lines()[0..48])?;
+        let mut source = LineSource::open(&three_lines())?;
         assert_eq!(rt; source.size(), 6);
         let rides = [
             Event::ride(3, 4, 90, 5),
@@ -111,7 +112,7 @@ mod tests {
             line(5, 2, 70, 20, 65_535, 1),
             line(1, 3, 60, 30, 10, 2),
         );
-        let mut source = LineSource::open(&bytes[0..48])?;
+        let mut source = LineSource::open(&bytes)?;
         let rides = [
             Event::ride(9, 1, 60, 10),
             Event::ride(1, 3, 60, 30),
@@ -133,7 +134,7 @@ mod tests {
 
     #[test]
     fn records_in_turn(rt: HostRuntime) -> Result<(), Fail> {
-        let mut source = RecordSource::open(&three_records()[0..48])?;
+        let mut source = RecordSource::open(&three_records())?;
         assert_eq!(rt; source.size(), 3);
         assert_eq!(rt; source.next(), Some(Event::ride(1, 2, 100, 20)));
         source.rewind();
@@ -155,11 +156,11 @@ mod tests {
 
     #[test]
     fn read_through_both_kinds(rt: HostRuntime) -> Result<(), Fail> {
-        let mut records = RecordSource::open(&three_records()[0..48])?;
+        let mut records = RecordSource::open(&three_records())?;
         assert_eq!(rt; records.next(), Some(Event::ride(1, 2, 100, 20)));
         assert_eq!(rt; read_through(&mut records), count_of(1, 2));
         assert_eq!(rt; records.next(), None);
-        let mut lines = LineSource::open(&three_lines()[0..48])?;
+        let mut lines = LineSource::open(&three_lines())?;
         assert_eq!(rt; lines.next(), Some(Event::ride(3, 4, 90, 5)));
         assert_eq!(rt; read_through(&mut lines), count_of(0, 6));
         assert_eq!(rt; lines.next(), None);
@@ -170,10 +171,10 @@ mod tests {
 
     #[test]
     fn handed_back_in_a_refusal(rt: HostRuntime) -> Result<(), Fail> {
-        let lines = LineSource::open(&three_lines()[0..48])?;
+        let lines = LineSource::open(&three_lines())?;
         let (mut source, _) = refused(lines).err().ok_or("nothing is refused")?;
         assert_eq!(rt; source.next(), Some(Event::ride(3, 4, 90, 5)));
-        let records = RecordSource::open(&three_records()[0..48])?;
+        let records = RecordSource::open(&three_records())?;
         let (mut source, _) = refused(records).err().ok_or("nothing is refused")?;
         assert_eq!(rt; source.next(), Some(Event::ride(1, 2, 100, 20)));
         Ok(())
@@ -212,7 +213,7 @@ mod tests {
             assert!(rt; at < 48 && also_at < 48);
             bytes[at] = byte;
             bytes[also_at] = also_byte;
-            assert_eq!(rt; opened(&bytes[0..48]), meets);
+            assert_eq!(rt; opened(&bytes), meets);
         }
     }
 

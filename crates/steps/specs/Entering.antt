@@ -5,6 +5,7 @@
 --     capped_end e         the end of e, up to 2 ^ 32 - 1
 --     best_before m b q e c the best label with which e can be taken so that the call state is c then, by a
 --                          fresh start or from the board b, and where it came from
+--     best_at m b q e o c  the same, where o says whether e is an opening
 --     entered m e x        the entry for e that comes of it
 use Rattle.std.specs.Prelude.{ℕ, ◌-◌, ◌^◌, min, Bool, true, false, cond, ◌&&◌, List, Some, None, Option, ◌==◌, nat_le}
 use Rattle.records.specs.declared.event.Event.{Event}

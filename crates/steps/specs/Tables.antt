@@ -3,7 +3,7 @@
 --     contents w           what the tables w hold
 --     awaited c            the arrivals that the queue holds
 --     SameSlice a b        a slice is the memory that it was, and as long as it was
---     SameWork w w'        so it is with the log, the board and the queue
+--     SameWork w w'        so it is with the log, the board and the queue; it compares two moments, which no type can
 use Rattle.std.specs.Prelude.{◌≡◌, ℕ, List, length, Option}
 use Rattle.std.specs.Borrow.{MutBor}
 use Rattle.queue.specs.Queue.{held}

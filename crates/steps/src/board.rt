@@ -2,6 +2,7 @@
 ghost use Rattle.std.specs.Prelude.{◌≡◌, ◌<◌, length, Some, None, slice_index_or, slice_set};
 ghost use Rattle.steps.specs.Boards.{preferred, stands};
 
+use crate::entry::slot_of;
 use measures::Measure;
 use records::Stop;
 
@@ -20,7 +21,7 @@ pub(crate) fn standing_at<L: Copy>(
 ) -> Option<Standing<L>>
     ensures { result ≡ stands board.now stop called }
 {
-    *board.get(usize::from(stop) * 2 + usize::from(called))?
+    *board.get(slot_of(usize::from(stop), called))?
 }
 
 // Who is to stand ready: the one that comes, unless the one that stands there is no worse.

@@ -9,7 +9,7 @@ ghost use Rattle.steps.specs.Tables.{SameWork, awaited, contents};
 use crate::arrival::Arrival;
 use crate::board::{Standing, place};
 use crate::enter::{best_before, capped_end};
-use crate::entry::{Entry, Stage, entry_for};
+use crate::entry::{Entry, Stage, entry_for, slot_of};
 use faults::Fault;
 use journeys::{Query, label_through, reaches_at};
 use measures::Measure;
@@ -26,7 +26,7 @@ pub struct Work<'a, L> {
     pub used: usize,
 }
 
-// Takes an arrival that is due by a minute, if there is one.
+// Takes an arrival that is due by a minute, if there is one. As a method it would have to say of all tables that the others stay.
 fn take_due(queue: &mut [Arrival], used: &mut usize, minute: u32) -> Option<Arrival>
     ensures { Due minute queue.old used.old result queue.new used.new }
 {
@@ -45,7 +45,7 @@ impl<L: Copy> Work<'_, L> {
         ensures noted { Noting (Some entry) stage (contents self.old) (contents self.new) }
         ensures same { SameWork self.old self.new }
     {
-        self.log[stage.event * 2 + usize::from(stage.called)] = Some(entry);
+        self.log[slot_of(stage.event, stage.called)] = Some(entry);
         let minute = entry.end;
         // Not refused, since a slot is free.
         let _ = put(self.queue, &mut self.used, Arrival { minute, stage });
@@ -69,25 +69,15 @@ impl<L: Copy> Work<'_, L> {
         })
     }
 
-    // Writes the entry for an event in a call state, if some journey comes to it, and awaits its arrival.
-    fn note_state<M: Measure<Label = L>>(
-        &mut self,
-        query: Query,
-        number: usize,
-        event: Event,
-        called: bool,
-    )
-        requires slot { slot_of number called < length self.old.log.now }
+    // Writes the entry of an event at a stage of its own, if some journey comes to it, and awaits its arrival.
+    fn note_state<M: Measure<Label = L>>(&mut self, query: Query, stage: Stage, event: Event)
+        requires slot { slot_of stage.event stage.called < length self.old.log.now }
         requires free { self.old.used < length self.old.queue.now }
-        ensures noted { Noting (entered M.ops event (best_before M.ops self.old.board.now query event called)) (record { event = number; called = called }) (contents self.old) (contents self.new) }
+        ensures noted { Noting (entered M.ops event (best_before M.ops self.old.board.now query event stage.called)) stage (contents self.old) (contents self.new) }
         ensures more { self.new.used ≤ self.old.used + 1 }
         ensures same { SameWork self.old self.new }
     {
-        if let Some(entry) = self.entry_of::<M>(query, event, called) {
-            let stage = Stage {
-                event: number,
-                called,
-            };
+        if let Some(entry) = self.entry_of::<M>(query, event, stage.called) {
             self.note(stage, entry);
         }
     }
@@ -108,7 +98,7 @@ impl<L: Copy> Work<'_, L> {
         let Some(entry) = self.entry_at(stage) else {
             return;
         };
-        let at = usize::from(entry.stop) * 2 + usize::from(stage.called);
+        let at = slot_of(usize::from(entry.stop), stage.called);
         if at < self.board.len() {
             let label = entry.label;
             let event = stage.event;
@@ -129,7 +119,8 @@ impl<L: Copy> Work<'_, L> {
     }
 
     // Takes the event with a number as the next one: what is due by then comes to the board, and the event's entries are
-    // written, if it is in force.
+    // written, if it is in force. Number, event and whether it is in force come apart from the reading, and stand together
+    // only here.
     fn take_event<M: Measure<Label = L>>(
         &mut self,
         query: Query,
@@ -144,8 +135,16 @@ impl<L: Copy> Work<'_, L> {
     {
         self.drain::<M>(event.time());
         if in_force {
-            self.note_state::<M>(query, number, event, false);
-            self.note_state::<M>(query, number, event, true);
+            let uncalled = Stage {
+                event: number,
+                called: false,
+            };
+            let called = Stage {
+                called: true,
+                ..uncalled
+            };
+            self.note_state::<M>(query, uncalled, event);
+            self.note_state::<M>(query, called, event);
         }
     }
 
@@ -157,7 +156,8 @@ impl<L: Copy> Work<'_, L> {
     }
 
     // Takes the event with a number as the next one; refuses with 16 where the log has no slots for it, or the queue has
-    // fewer than two that are free.
+    // fewer than two that are free. Number, event and whether it is in force come apart from the reading, and stand
+    // together only here.
     pub fn step<M: Measure<Label = L>>(
         &mut self,
         query: Query,

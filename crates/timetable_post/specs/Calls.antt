@@ -2,6 +2,7 @@
 -- es is the source's list of events; marks has true for an event that is out of force.
 --     Notice               a withdrawal or a reinstatement
 --     notice_of out        the notice after which an event is out of force, or in force
+--     out_after k          whether an event is out of force after the notice k
 --     Asking               what a query was handed: the query, the lengths of the tables, and how its measure scores a
 --                          list of event numbers
 --     Call                 a call with its answer: a notice about an event; a tally; a query, with the step table

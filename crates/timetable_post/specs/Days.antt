@@ -1,6 +1,7 @@
 -- The depot's day: a list of calls, each meeting the post as the one before left it. Assumes nothing.
 -- A history lists calls with their answers, the latest first. What is in force is told by the history alone.
 --     latest h n           the latest accepted notice about event n, none where there was none
+--     is_withdrawal k      there is a notice k, and after it an event is out of force
 --     is_out h n           event n is out of force: the latest accepted notice about it was a withdrawal
 --     outs es h            how many of the events are out of force
 --     Owed es h c          what is owed to the call c after the history h: a notice is accepted, or refused by the

@@ -14,7 +14,8 @@ use records::MOST_EVENTS;
 use search::{Answer, Carried, Tables};
 use sources::Source;
 
-// A source, and a mark for each event that is out of force.
+// A source, and a mark for each event that is out of force. The marks stand beside the source, since the source is its owner's,
+// and events have no marks.
 #[derive(Drop)]
 pub struct Post<S: Source + Drop> {
     source: S,

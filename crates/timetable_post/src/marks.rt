@@ -10,7 +10,7 @@ pub(crate) fn all_in_force() -> [bool; MOST_EVENTS]
     [false; MOST_EVENTS]
 }
 
-// How many marks are set; a loop, as the tally is wanted.
+// How many marks are set. The tally is wanted as a `for` over the marks without an index, a rule of the project.
 pub(crate) fn count_set(marks: &[bool]) -> usize
     ensures { result ≡ count_by (λ b. b) marks.now }
 {

@@ -2,10 +2,12 @@
 -- es, p, q and m are as for walks. A log has, for an event and a call state, a label and its origin, or nothing.
 --     Origin               where a label came from: a fresh start, or an earlier event in a call state
 --     Log L                the log
+--     Passes e c c'        the event e takes a traveller from call state c to c': a ride keeps it, an opening makes the call
 --     Candidate m es p q g i c l o  the label l, from the origin o, can be had at event i with call
 --                          state c: by a fresh start, or from an entry of the log g at an earlier event
 --                          from which the traveller is ready for i
 --     BestEntry ..         an entry that is a candidate, and no worse than every candidate
+--     RightAt ..           the log has a best entry for event and call state, or none and there is no candidate
 --     Right m es p q g n   up to event n, each entry of g is a best one, and there is none only where
 --                          there is no candidate
 --     Traced g i c js      following origins back from event i in call state c spells js
@@ -14,6 +16,7 @@
 --     Spells ..            every entry before n is the label of a walk that tracing spells
 --     Late q es n          every event from n on is later than q's close
 --     EndsRightly ..       the entry at i before n ends as q asks
+--     Lowest ..            no entry that ends rightly has a lower settled score
 --     LogIsGlobal m        a right log covers every walk and spells one for each entry
 --     LogGivesBest m       with the events from n on all too late: an entry that ends rightly and has the
 --                          lowest settled score of all that do gives the best score of the journeys that

@@ -15,12 +15,14 @@ use measures::{
 use records::{Event, write};
 use sources::{RecordSource, Source, read_through};
 use std::{io, iter};
-use worked_scores::{WORKED_QUERY, worked_events};
+use worked_scores::{WORKED_LINES, WORKED_QUERY, WORKED_QUERY_WITH_CALL, worked_events};
 
 // Room for one record more than the day has.
 const MEMORY_BYTES: usize = 128;
 
-// Fills memory with the records of the events, in their order, and tells how many there are.
+// Fills memory with the records of the events, in their order, and tells how many there are. Here it shows its contract. The program
+// `searching` and the tests of the post have these few lines too: one text for all would be public, and would have to say what a
+// refusal leaves in the middle.
 fn store(memory: &mut [u8], events: &[Event]) -> Result<usize, Fault>
     ensures { IfOk result (λ n. Filled memory.old (map layout events.now) memory.new n) }
 {
@@ -56,12 +58,6 @@ fn print_damaged(rt: &impl Print, bytes: &mut [u8], at: usize, byte: u8) -> io::
     print_block(rt, bytes)
 }
 
-// Two lines: 1-2 from 100 on, every 15 minutes, 3 rides of 20; and 2-3 from 115 on, every 30 minutes, 2 rides of 10.
-const LINES: [u8; 32] = [
-    3, 1, 2, 0, 0, 0, 0, 100, 0, 20, 0, 15, 0, 3, 0, 0, //
-    3, 2, 3, 0, 0, 0, 0, 115, 0, 10, 0, 30, 0, 2, 0, 0, //
-];
-
 // Reads a source through and prints how many events of each kind it has, and then the events.
 fn print_source<S: Source>(rt: &impl Print, title: &str, source: &mut S) -> io::Result<()> {
     let counts = read_through(source);
@@ -80,7 +76,7 @@ fn print_sources(rt: &impl Print, bytes: &[u8]) -> io::Result<()> {
         Ok(mut source) => print_source(rt, "records", &mut source)?,
         Err(fault) => println!(rt; "{fault}")?,
     }
-    match LineSource::open(&LINES) {
+    match LineSource::open(&WORKED_LINES) {
         Ok(mut source) => print_source(rt, "lines", &mut source),
         Err(fault) => println!(rt; "{fault}"),
     }
@@ -100,18 +96,14 @@ fn print_journey<M: Measure>(
 }
 
 fn print_journeys(rt: &impl Print) -> io::Result<()> {
-    let with_a_call = Query {
-        call: true,
-        ..WORKED_QUERY
-    };
     print_journey::<EarliestArrival>(rt, "e", WORKED_QUERY, &[2, 4])?;
     print_journey::<LatestDeparture>(rt, "l", WORKED_QUERY, &[2, 4])?;
     print_journey::<Fastest>(rt, "f", WORKED_QUERY, &[2, 4])?;
     print_journey::<LeastRiding>(rt, "s", WORKED_QUERY, &[2, 5])?;
     print_journey::<FewestRides>(rt, "n", WORKED_QUERY, &[1])?;
     print_journey::<LeastWaiting>(rt, "c", WORKED_QUERY, &[2, 4])?;
-    print_journey::<FewestRides>(rt, "n with a call", with_a_call, &[1, 6])?;
-    print_journey::<LeastRiding>(rt, "s with a call", with_a_call, &[2, 3, 5])?;
+    print_journey::<FewestRides>(rt, "n with a call", WORKED_QUERY_WITH_CALL, &[1, 6])?;
+    print_journey::<LeastRiding>(rt, "s with a call", WORKED_QUERY_WITH_CALL, &[2, 3, 5])?;
     print_journey::<EarliestArrival>(rt, "e", WORKED_QUERY, &[4, 2])
 }
 

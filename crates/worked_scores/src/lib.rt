@@ -16,6 +16,18 @@ pub const WORKED_QUERY: Query = Query {
     call: false,
 };
 
+// The same, with a call.
+pub const WORKED_QUERY_WITH_CALL: Query = Query {
+    call: true,
+    ..WORKED_QUERY
+};
+
+// Two lines: 1-2 from 100 on, every 15 minutes, 3 rides of 20; and 2-3 from 115 on, every 30 minutes, 2 rides of 10.
+pub const WORKED_LINES: [u8; 32] = [
+    3, 1, 2, 0, 0, 0, 0, 100, 0, 20, 0, 15, 0, 3, 0, 0, //
+    3, 2, 3, 0, 0, 0, 0, 115, 0, 10, 0, 30, 0, 2, 0, 0, //
+];
+
 // The events of the worked day.
 pub fn worked_events() -> [Event; 7]
     ensures { result ≡ day }

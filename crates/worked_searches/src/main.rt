@@ -11,7 +11,7 @@ use records::write;
 use search::{Answer, CheckedQuery, search};
 use sources::{RecordSource, Source};
 use std::io;
-use worked_scores::{WORKED_QUERY, worked_events};
+use worked_scores::{WORKED_QUERY, WORKED_QUERY_WITH_CALL, worked_events};
 
 // Prints the journey that an answer names, how many steps it has and how many events were read.
 fn print_answer(rt: &impl Print, answer: Option<Answer>, steps: &[usize]) -> io::Result<()> {
@@ -63,7 +63,7 @@ fn print_six(
     print_found::<LeastWaiting>(rt, "c", source, WORKED_QUERY, plain)
 }
 
-// Searches for the earliest arrival within a narrower window.
+// Searches for the earliest arrival within a narrower window. What it is handed has nothing in common but for this program's printing.
 fn print_within(
     rt: &impl Print,
     source: &mut RecordSource,
@@ -89,18 +89,16 @@ fn print_searches(rt: &HostRuntime, bytes: &[u8]) -> io::Result<()> {
     let lengths = Lengths::for_events(source.size());
     let mut plain = HeapTables::new(rt.alloc(), lengths, Slots::default())?;
     let mut trips = HeapTables::new(rt.alloc(), lengths, Slots::default())?;
-    let with_a_call = Query {
-        call: true,
-        ..WORKED_QUERY
-    };
     print_six(rt, &mut source, &mut plain, &mut trips)?;
-    print_found::<FewestRides>(rt, "n with a call", &mut source, with_a_call, &mut plain)?;
-    print_found::<LeastRiding>(rt, "s with a call", &mut source, with_a_call, &mut plain)?;
+    let with_call = WORKED_QUERY_WITH_CALL;
+    print_found::<FewestRides>(rt, "n with a call", &mut source, with_call, &mut plain)?;
+    print_found::<LeastRiding>(rt, "s with a call", &mut source, with_call, &mut plain)?;
     print_within(rt, &mut source, 110, 155, &mut plain)?;
     print_within(rt, &mut source, 111, 155, &mut plain)?;
     print_within(rt, &mut source, 110, 154, &mut plain)
 }
 
+// The day's records stand in a vector; the tests of the post load them into memory.
 fn main(rt: HostRuntime) -> io::Result<()> {
     let mut bytes = Vec::new(rt.alloc());
     for event in worked_events() {

@@ -20,8 +20,10 @@ loop-event-preserved g c =
 
 pub count-requires : goal.count-requires
 count-requires g c =
+    let few =
     midway_few _ _ _ _ (g.S.Source.events c.next.new.self) (g.S.Source.place c.next.new.self) c.loop-event.invariant
-    c.in-Some.event c.in-Some.ensures.item (g.S.Source.listed c.loop-event.source).few
+    c.in-Some.event c.in-Some.ensures.item (g.S.Source.listed c.loop-event.source).few in
+    record { openings = few.0; rides = few.1 }
 
 pub loop-event-smaller : goal.loop-event-smaller
 loop-event-smaller g c = reading_falls _ _ c.in-Some.event _ _ c.in-Some.ensures

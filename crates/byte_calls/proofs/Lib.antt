@@ -1,0 +1,5 @@
+pub mod Filled
+pub mod Lines
+pub mod Printing
+pub mod Restored
+pub mod Underway

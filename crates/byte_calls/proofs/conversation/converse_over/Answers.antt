@@ -1,0 +1,28 @@
+use Rattle.std.proofs.Common.{refl, ap, ◌∙◌, ◌*◌, arith}
+use Rattle.std.proofs.lemmas.List.{length-take-le}
+use Rattle.byte_calls.specs.Conversations.{list_of, place_of}
+use Rattle.byte_calls.proofs.conversation.converse_over.Goals as goal
+
+pub returns-clause-converses : goal.returns-clause-converses
+returns-clause-converses c =
+    let source = c.put_up.ensures.source in
+    let said = c.converse.ensures.converses in (
+      said.text,
+      (
+        _,
+        _,
+        record {
+          list = ap list_of source;
+          start = ap place_of source ∙ c.requires;
+          day = c.put_up.ensures.day;
+          log = length-take-le _ _ (omega (arith, c.args.source.listed.few, c.size-slots.ensures)) ∙ ap (λ n. n * 2) c.size-slots.ensures;
+          board = refl;
+          trip_log = length-take-le _ _ (omega (arith, c.args.source.listed.few, c.size-slots.ensures)) ∙ ap (λ n. n * 2) c.size-slots.ensures;
+          trip_board = refl;
+          queue = refl;
+          steps = refl;
+        },
+        said.held,
+      ),
+      said.printed,
+    )
