@@ -148,7 +148,9 @@ def begins_statement(place):
 def dropped(place):
     text = place.line.strip()
     is_write = re.match(r'let _ = ', text) or not re.match(r'(let|return|const|use|break|continue)\b', text)
-    if text.endswith(';') and is_write and is_balanced(text) and begins_statement(place):
+    # An assertion that is left out says nothing of the code.
+    is_assertion = text.startswith('assert')
+    if text.endswith(';') and is_write and not is_assertion and is_balanced(text) and begins_statement(place):
         yield place.indent + '{}'
     arm = re.fullmatch(r'( *.+ =>) (?:.* [-+]?= .*|.*\)\?),', place.line)
     if arm and is_balanced(place.line):

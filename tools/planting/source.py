@@ -3,7 +3,7 @@
 Line by line, and by the indentation that `rt fmt` gives.
 """
 import re
-from dataclasses import dataclass
+from dataclasses import dataclass, replace
 
 TOKEN = re.compile(r'''
     (?P<comment>//.*)
@@ -268,6 +268,9 @@ class Crate:
         self.types = types
         by_name, results = types.by_name(), results_of(self.texts.values())
         self.functions = [it for file, text in self.texts.items() for it in functions_of(file, text, by_name, results)]
+        if self.name.endswith('_tests'):
+            # Proved only together with its tests, so that these tell.
+            self.functions = [replace(it, is_promised=False) for it in self.functions]
 
     def function_at(self, file, line):
         """The name of the function at a line, counted from 1."""

@@ -71,6 +71,7 @@ impl<'a> Load<'a> {
     }
 
     // Ends the load and tells how many records it holds: the front of the memory is their block.
+    #[tactic(auto, using(crate::proofs::Fills::filled_from_filling))]
     pub fn finish(self) -> usize
         ensures value { result ≡ self.entry.held }
         ensures same { self.exit.0.now ≡ self.entry.memory.now }

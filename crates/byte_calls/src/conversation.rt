@@ -22,6 +22,7 @@ const SLOTS: usize = 2_048;
 
 // The first line of a text, and what stands behind it; none where there is no more line. Byte 10 ends a line; a last line
 // without it is a line too.
+#[tactic(auto, using(crate::proofs::Lines::line_cut, crate::proofs::Lines::line_last))]
 fn first_line(text: &[u8]) -> Option<(&[u8], &[u8])>
     ensures { MatchOption result (length text.now ≡ 0) (λ parts. FirstLine text.now parts.0.now parts.1.now) }
 {

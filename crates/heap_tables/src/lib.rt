@@ -36,6 +36,9 @@ impl Lengths {
 // A number that no event has, to stand in slots of a step table that are not to be written.
 pub const NONSENSE: usize = 77_777;
 
+// The same for the tables in which a search works.
+pub const NO_EVENT: u16 = 65_535;
+
 // Whether a step table has nonsense in each slot behind the first ones.
 pub fn is_nonsense_behind(steps: &[usize], count: usize) -> bool
     ensures { result ≡ list_all (λ step. step == 77777) (drop count steps.now) }

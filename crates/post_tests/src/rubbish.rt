@@ -1,5 +1,5 @@
 // What stands in the tables before a query, so that a slot that was written is told from one that was not.
-use heap_tables::{HeapTables, NONSENSE, Slots, is_nonsense_behind};
+use heap_tables::{HeapTables, NO_EVENT, NONSENSE, Slots, is_nonsense_behind};
 use search::Carried;
 use steps::{Arrival, Entry, Stage, Standing};
 
@@ -12,7 +12,7 @@ pub fn rubbish() -> Slots<u32> {
         rides: 5,
     };
     let nowhere = Stage {
-        event: NONSENSE,
+        event: NO_EVENT,
         called: true,
     };
     Slots {
@@ -24,7 +24,7 @@ pub fn rubbish() -> Slots<u32> {
         }),
         standing: Some(Standing {
             label,
-            event: NONSENSE,
+            event: NO_EVENT,
         }),
         arrival: Arrival {
             minute: 1,

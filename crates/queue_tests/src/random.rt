@@ -5,6 +5,7 @@ pub struct Random {
 }
 
 impl Random {
+    // The generator of a seed.
     pub fn new(seed: u32) -> Random {
         Random { state: seed }
     }

@@ -8,6 +8,19 @@ use std::cell::Cell;
 use std::process::Abort;
 use std::test::Fail;
 
+// Of the numbers below a bound each comes, so that the runs are random.
+#[test]
+fn every_number_comes(rt: HostRuntime) {
+    let mut random = Random::new(7);
+    let mut came = [false; 10];
+    for _ in 0..200 {
+        if let Some(slot) = came.get_mut(usize::from(random.below(10))) {
+            *slot = true;
+        }
+    }
+    assert_eq!(rt; came, [true; 10]);
+}
+
 // Every number of slots up to a heap of six levels.
 #[test]
 fn answers_as_a_sorted_list(rt: HostRuntime) -> Result<(), Fail> {

@@ -94,3 +94,41 @@ impl FromStr for DayLine {
         }
     }
 }
+
+#[cfg(test)]
+mod tests {
+    use super::*;
+    use std::test::Fail;
+
+    #[test]
+    fn lines_that_tell_nothing(rt: HostRuntime) -> Result<(), Fail> {
+        let errors = [
+            ("", LineError::UnknownLetter),
+            ("z 1", LineError::UnknownLetter),
+            ("x", LineError::MissingNumber),
+            ("r 2 3 125", LineError::MissingNumber),
+            ("o 256 125", LineError::NotANumber),
+            ("q 1 3 100 200 v", LineError::NotANumber),
+        ];
+        for (line, error) in errors {
+            assert_eq!(rt; line.parse::<DayLine>(), Err(error));
+        }
+        Ok(())
+    }
+
+    #[test]
+    fn call_wanted_by_one_alone(rt: HostRuntime) -> Result<(), Fail> {
+        let asked = Query {
+            from: 1,
+            to: 3,
+            open: 100,
+            close: 200,
+            call: false,
+        };
+        assert_eq!(rt;
+            "q 1 3 100 200 2".parse::<DayLine>(),
+            Ok(DayLine::Ask(asked))
+        );
+        Ok(())
+    }
+}

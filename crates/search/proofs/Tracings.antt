@@ -94,8 +94,9 @@ module _ {L : Type 0} {g : Log L} {last next : Option Stage} {old new : List ℕ
 
 module _ {L : Type 0} (log : List (Option (Entry L))) {last : Stage} {next : Option Stage} {old new : List ℕ} {place : ℕ} (w : Writing (view log) (Some last) next old new place) where
   -- one step more is written
-  pub writing_more : (s : Stage) (before : Option Stage) (newer : List ℕ) → next ≡ Some s → before ≡ stage_before log s → newer ≡ set new (place - 1) s.event → Writing (view log) (Some last) before old newer (place - 1)
-  writing_more s before newer e b n =
+  pub writing_more : (s : Stage) (before : Option Stage) (number : ℕ) → next ≡ Some s → before ≡ stage_before log s → number ≡ s.event → Writing (view log) (Some last) before old (set new (place - 1) number) (place - 1)
+  writing_more s before number e b same =
+      let n : set new (place - 1) number ≡ set new (place - 1) s.event = ap (set new (place - 1)) same in
       let back = traced_back log s.event s.called before w.ks b (subst (λ x. Rest (view log) x w.ks) e w.left) in
       let long : length w.ks ≡ length back.0 + 1 = simp length-append at (ap length back.2) in
       let within : place - 1 < length new = omega (arith, w.many, w.room) in

@@ -56,7 +56,7 @@ fn travel<S: Source, M: Measure>(
         label: leader.entry.label,
         end: leader.entry.end,
         steps: trace_back(tables, last),
-        reads: (done + 1).min(source.size()),
+        reads: (usize::from(done) + 1).min(source.size()),
     })
 }
 

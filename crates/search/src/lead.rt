@@ -12,7 +12,7 @@ use steps::{Entry, Stage, entry_for};
 // An entry and the event that it is for.
 #[derive(Clone, Copy)]
 pub(crate) struct Leader<L> {
-    pub event: usize,
+    pub event: u16,
     pub entry: Entry<L>,
 }
 
@@ -24,7 +24,7 @@ fn ends_rightly(query: Query, stop: Stop, end: u32) -> bool
 }
 
 // The entry for an event, if it ends as the query asks.
-fn contender<L: Copy>(query: Query, event: usize, entry: Option<Entry<L>>) -> Option<Leader<L>>
+fn contender<L: Copy>(query: Query, event: u16, entry: Option<Entry<L>>) -> Option<Leader<L>>
     ensures { Contends query event entry result }
 {
     entry
@@ -50,7 +50,7 @@ fn score<M: Measure>(entry: &Entry<M::Label>) -> (i64, i64)
 fn lead<M: Measure>(
     leader: Option<Leader<M::Label>>,
     query: Query,
-    event: usize,
+    event: u16,
     entry: Option<Entry<M::Label>>,
 ) -> Option<Leader<M::Label>>
     ensures { LeadsOn M.ops query leader event entry result }
@@ -72,7 +72,7 @@ fn lead<M: Measure>(
 pub(crate) fn lowest<M: Measure>(
     tables: &Tables<'_, M::Label>,
     query: Query,
-    done: usize,
+    done: u16,
 ) -> Option<Leader<M::Label>>
     ensures { Leads M.ops query tables.now.log.now done result }
 {

@@ -35,7 +35,7 @@ fn read_on<S: Source, M: Measure>(
     marks: &[bool],
     query: Query,
     work: &mut Work<'_, M::Label>,
-) -> usize
+) -> u16
     requires no_entry { Cleared work.old.log.now }
     requires no_one { Cleared work.old.board.now }
     requires none_awaited { work.old.used ≡ 0 }
@@ -47,12 +47,12 @@ fn read_on<S: Source, M: Measure>(
 {
     source.rewind();
     // A source is no iterator: it stands at a place, and every read is a call on it. So the number is counted here.
-    let mut number = 0;
+    let mut number: u16 = 0;
     while let Some(event) = source.next() {
         if is_later(event, query.close) {
             return number;
         }
-        let in_force = is_in_force(marks, number);
+        let in_force = is_in_force(marks, usize::from(number));
         // Not refused, since there is room for every event of the source.
         let _ = work.step::<M>(query, number, event, in_force);
         number += 1;
@@ -67,7 +67,7 @@ pub(crate) fn read_up<S: Source, M: Measure>(
     marks: &[bool],
     query: Query,
     tables: &mut Tables<'_, M::Label>,
-) -> usize
+) -> u16
     requires { LongEnough (length (S.events source.old)) (lengths tables.old) }
     ensures read { ReadUp M.ops (S.events source.old) (in_force marks.now) query tables.new.log.now result (S.events source.new) (S.place source.new) }
     ensures steps { tables.new.steps.now ≡ tables.old.steps.now }

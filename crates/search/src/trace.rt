@@ -44,7 +44,7 @@ fn write_steps<L: Copy>(tables: &mut Tables<'_, L>, last: Stage, count: usize)
     let mut next = Some(last);
     while let Some(stage) = next {
         place -= 1;
-        tables.steps[place] = stage.event;
+        tables.steps[place] = usize::from(stage.event);
         next = stage_before(tables, stage);
     }
 }

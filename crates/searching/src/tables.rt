@@ -1,5 +1,5 @@
 // Rubbish in the tables that a search is handed.
-use heap_tables::{NONSENSE, Slots};
+use heap_tables::{NO_EVENT, NONSENSE, Slots};
 use search::Carried;
 use steps::{Arrival, Entry, Stage, Standing};
 
@@ -13,7 +13,7 @@ pub(crate) fn rubbish<L: Copy>(label: L) -> Slots<L> {
         rides: 0,
     };
     let nowhere = Stage {
-        event: NONSENSE,
+        event: NO_EVENT,
         called: true,
     };
     Slots {
@@ -25,7 +25,7 @@ pub(crate) fn rubbish<L: Copy>(label: L) -> Slots<L> {
         }),
         standing: Some(Standing {
             label,
-            event: NONSENSE,
+            event: NO_EVENT,
         }),
         arrival: Arrival {
             minute: 0,

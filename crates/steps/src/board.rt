@@ -10,7 +10,7 @@ use records::Stop;
 #[derive(Clone, Copy, PartialEq, Eq, Debug)]
 pub struct Standing<L> {
     pub label: L,
-    pub event: usize,
+    pub event: u16,
 }
 
 // Who stands ready at a stop in a call state.
@@ -21,7 +21,7 @@ pub(crate) fn standing_at<L: Copy>(
 ) -> Option<Standing<L>>
     ensures { result ≡ stands board.now stop called }
 {
-    *board.get(slot_of(usize::from(stop), called))?
+    *board.get(slot_of(u16::from(stop), called))?
 }
 
 // Who is to stand ready: the one that comes, unless the one that stands there is no worse.

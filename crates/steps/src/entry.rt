@@ -1,5 +1,5 @@
 // What a log keeps of an event in a call state.
-ghost use Rattle.std.specs.Prelude.{◌≡◌, ◌-◌, ◌^◌, min};
+ghost use Rattle.std.specs.Prelude.{◌≡◌};
 ghost use Rattle.steps.specs.Boards.{logged, slot_of};
 
 use records::Stop;
@@ -7,7 +7,7 @@ use records::Stop;
 // An event in a call state.
 #[derive(Clone, Copy, PartialEq, Eq, Debug, Default)]
 pub struct Stage {
-    pub event: usize,
+    pub event: u16,
     pub called: bool,
 }
 
@@ -21,12 +21,11 @@ pub struct Entry<L> {
     pub end: u32,
 }
 
-// The slot of an event in a log, or of a stop on a board: two for each, the one without a call first. Where it would be past
-// the largest number it is that, which no table has.
-pub(crate) fn slot_of(number: usize, called: bool) -> usize
-    ensures { result ≡ min (slot_of number called) (2 ^ 64 - 1) }
+// The slot of an event in a log, or of a stop on a board: two for each, the one without a call first.
+pub(crate) fn slot_of(number: u16, called: bool) -> usize
+    ensures { result ≡ slot_of number called }
 {
-    number.saturating_mul(2).saturating_add(usize::from(called))
+    usize::from(number) * 2 + usize::from(called)
 }
 
 // The entry for a stage.

@@ -98,7 +98,7 @@ impl<L: Copy> Work<'_, L> {
         let Some(entry) = self.entry_at(stage) else {
             return;
         };
-        let at = slot_of(usize::from(entry.stop), stage.called);
+        let at = slot_of(u16::from(entry.stop), stage.called);
         if at < self.board.len() {
             let label = entry.label;
             let event = stage.event;
@@ -124,7 +124,7 @@ impl<L: Copy> Work<'_, L> {
     fn take_event<M: Measure<Label = L>>(
         &mut self,
         query: Query,
-        number: usize,
+        number: u16,
         event: Event,
         in_force: bool,
     )
@@ -149,10 +149,10 @@ impl<L: Copy> Work<'_, L> {
     }
 
     // Whether the log has slots for an event, and the queue two that are free.
-    fn has_room(&self, number: usize) -> bool
+    fn has_room(&self, number: u16) -> bool
         ensures { Decides result (Room number (contents self.now)) }
     {
-        number < self.log.len() / 2 && self.queue.len().saturating_sub(self.used) >= 2
+        usize::from(number) < self.log.len() / 2 && self.queue.len().saturating_sub(self.used) >= 2
     }
 
     // Takes the event with a number as the next one; refuses with 16 where the log has no slots for it, or the queue has
@@ -161,7 +161,7 @@ impl<L: Copy> Work<'_, L> {
     pub fn step<M: Measure<Label = L>>(
         &mut self,
         query: Query,
-        number: usize,
+        number: u16,
         event: Event,
         in_force: bool,
     ) -> Result<(), Fault>

@@ -1,4 +1,4 @@
-use Rattle.std.proofs.Common.{sym, ◌∙◌, subst, rules}
+use Rattle.std.proofs.Common.{sym, ap, ◌∙◌, subst, rules}
 use Rattle.std.proofs.lemmas.Bool.{ltb-false, ltb-true}
 use Rattle.records.specs.Events.{time_of}
 use Rattle.journeys.specs.Verdicts.{in_force}
@@ -13,7 +13,7 @@ loop-event-preserved g c =
     record {
       stands =
           standing_more _ _ _ _ (g.S.Source.listed c.rewind.new.self) _ _ _ _ c.loop-event.invariant.stands _ _ c.in-Some.event c.in-Some.ensures
-          c.is_in_force-in_force.result c.is_in_force-in_force.ensures
+          c.is_in_force-in_force.result (c.is_in_force-in_force.ensures ∙ ap (in_force c.args.marks.now) c.from.ensures)
           (ltb-false c.args.query.close (time_of c.in-Some.event) (sym c.is_later.ensures ∙ c.if-is_later.false)) (contents c.step.new.self)
           c.step.result c.step.ensures.step c.step.ensures.same.0.1 c.step.ensures.same.2.1;
       same = search rules;

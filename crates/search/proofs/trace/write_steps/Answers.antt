@@ -1,4 +1,4 @@
-use Rattle.std.proofs.Common.{ap, ◌∙◌, refl, arith, length-set}
+use Rattle.std.proofs.Common.{ap, ◌∙◌, arith, length-set}
 use Rattle.search.specs.Tracing.{stage_before}
 use Rattle.search.proofs.Tracings.{writing_all, writing_more, writing_place}
 use Rattle.search.proofs.trace.write_steps.Goals as goal
@@ -16,7 +16,7 @@ loop-next-preserved g c =
       log = c.loop-next.invariant.log;
       writing =
           writing_more c.args.tables.now.log.now c.loop-next.invariant.writing c.in-Some.stage c.stage_before-next.result _ c.in-Some.is
-          (c.stage_before-next.ensures ∙ ap (λ log. stage_before log c.in-Some.stage) c.loop-next.invariant.log) refl;
+          (c.stage_before-next.ensures ∙ ap (λ log. stage_before log c.in-Some.stage) c.loop-next.invariant.log) c.from.ensures;
       same = (same.0, same.1, same.2, (same.3.0, length-set _ _ _ ∙ same.3.1));
     }
 
