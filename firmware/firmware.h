@@ -8,7 +8,7 @@
 /*
  * Answers lines over the records of a day, as a post does that was just put up over them, and writes what is printed to the front of
  * out. Returns how many bytes that is; -1, with nothing written, where it is longer than out or than 65,536 bytes. A pointer may be
- * anything but null where its length is 0. Needs about 430 KiB of stack.
+ * anything but null where its length is 0. Needs about 300 KiB of stack.
  */
 ptrdiff_t firmware_answer_lines(const uint8_t *day, size_t day_length, const uint8_t *lines, size_t lines_length, uint8_t *out,
                                 size_t out_length);

@@ -2,9 +2,11 @@
 #![tactic(auto)]
 
 mod block;
+mod facts;
 mod load;
 mod row;
 
 pub use block::Block;
+pub use facts::clone_is_identity;
 pub use load::Load;
 pub use row::{RECORD_BYTES, rows};

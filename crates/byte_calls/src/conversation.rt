@@ -1,14 +1,15 @@
 // Lines answered over a day, from bytes to bytes.
-ghost use Rattle.std.specs.Prelude.{◌≡◌, ℕ, ◌≤◌, List, length, Ok, IfSome, MatchOption};
+ghost use Rattle.std.specs.Prelude.{◌≡◌, ℕ, ◌≤◌, List, ◌++◌, length, Ok, IfSome, MatchOption};
 ghost use Rattle.blocks.specs.Blocks.{opening};
+ghost use Rattle.dialogue.specs.Conversations.{FirstLine};
 ghost use Rattle.dialogue.specs.Obeying.{desk};
 ghost use Rattle.dialogue.specs.Tables.{SamePostTables};
-ghost use Rattle.byte_calls.specs.Conversations.{Answering, Answers, Converses, Delivered, FirstLine, Printed, Says, list_of};
+ghost use Rattle.byte_calls.specs.Conversations.{Answering, Answers, Converses, Delivered, Printed, Says};
 
 use dialogue::{PostTables, respond};
 use memchr::memchr;
 use records::MOST_EVENTS;
-use replies::write;
+use replies::{LONGEST_LINE, write};
 use search::BOARD_SLOTS;
 use sources::{RecordSource, Source};
 use steps::Arrival;
@@ -35,24 +36,45 @@ fn first_line(text: &[u8]) -> Option<(&[u8], &[u8])>
     }
 }
 
-// Answers a line behind so many bytes of a text; none where there is no room for the reply, or was none for those before. The
-// text's memory is handed over, so how much of it is in use stands beside it.
+// Copies bytes behind what a text's front has so far, and tells how many there are then; none where there is no room, or was none
+// before. The text's memory is handed over, so how much of it is in use stands beside it.
+fn append(text: &mut [u8], so_far: Option<usize>, bytes: &[u8]) -> Option<usize>
+    requires { IfSome so_far (λ n. n ≤ length text.old) }
+    ensures printed { (t : List ℕ)
+        → Printed so_far t text.old
+        → Printed result (t ++ bytes.now) text.new }
+    ensures within { IfSome result (λ n. n ≤ length text.new) }
+    ensures long { length text.new ≡ length text.old }
+{
+    let at = so_far?;
+    if bytes.len() > text.len() - at {
+        return None;
+    }
+    let end = at + bytes.len();
+    text[at..end].copy_from_slice(bytes);
+    Some(end)
+}
+
+// Answers a line behind what a text's front has so far; none where there is no room for the reply's line, or was none for those before.
+// The memory for the reply is lent, so that it is not made anew for each line.
 fn answer_behind<S: Source + Drop>(
     post: &mut Post<S>,
     line: &[u8],
     tables: &mut PostTables<'_>,
+    reply: &mut [u8; LONGEST_LINE],
     text: &mut [u8],
     so_far: Option<usize>,
 ) -> Option<usize>
     requires { IfSome so_far (λ n. n ≤ length text.old) }
-    ensures answering { Answering S.events S.place (desk post.old.source post.old.marks tables.old) line.now so_far text.old (desk post.new.source post.new.marks tables.new) result text.new }
+    ensures answering { let b = desk post.old.source post.old.marks tables.old in
+        let a = desk post.new.source post.new.marks tables.new in
+        Answering S.events S.place b line.now so_far text.old a result text.new }
     ensures within { IfSome result (λ n. n ≤ length text.new) }
     ensures long { length text.new ≡ length text.old }
     ensures same { SamePostTables tables.old tables.new }
 {
-    let at = so_far.unwrap_or(text.len());
-    let more = respond(post, line, tables, &mut text[at..]);
-    Some(so_far? + more?)
+    let length = respond(post, line, tables, reply);
+    append(text, so_far, &reply[..length])
 }
 
 // Answers the lines of a text, one after another; tells how many bytes the text of the replies has, which fills the front of
@@ -63,14 +85,17 @@ fn converse<S: Source + Drop>(
     tables: &mut PostTables<'_>,
     text: &mut [u8],
 ) -> Option<usize>
-    ensures converses { Converses S.events S.place (desk post.old.source post.old.marks tables.old) lines.now result text.new (desk post.new.source post.new.marks tables.new) }
+    ensures converses { let b = desk post.old.source post.old.marks tables.old in
+        let a = desk post.new.source post.new.marks tables.new in
+        Converses S.events S.place b lines.now result text.new a }
     ensures within { IfSome result (λ n. n ≤ length text.new) }
     ensures long { length text.new ≡ length text.old }
 {
+    let mut reply = [0; LONGEST_LINE];
     let mut so_far = Some(0);
     let mut left = lines;
     while let Some((line, rest)) = first_line(left) {
-        so_far = answer_behind(post, line, tables, text, so_far);
+        so_far = answer_behind(post, line, tables, &mut reply, text, so_far);
         left = rest;
     }
     so_far
@@ -78,8 +103,9 @@ fn converse<S: Source + Drop>(
 
 // Answers lines over a source, by a post that is put up over it and taken down again. No memory is allocated: the tables stand here.
 fn converse_over(source: RecordSource, lines: &[u8], text: &mut [u8]) -> Option<usize>
-    requires { source.place ≡ 0 }
-    ensures converses { Says (Ok (list_of source)) lines.now result text.new }
+    requires { ⟦<RecordSource as Source>⟧.place source ≡ 0 }
+    ensures converses { let records = ⟦<RecordSource as Source>⟧ in
+        Says records.events records.place (Ok (records.events source)) lines.now result text.new }
     ensures within { IfSome result (λ n. n ≤ length text.new) }
     ensures long { length text.new ≡ length text.old }
 {
@@ -105,7 +131,8 @@ fn converse_over(source: RecordSource, lines: &[u8], text: &mut [u8]) -> Option<
 // Says to the lines what a new post over the day's events says, or, where the day's bytes are no block, the line of its fault.
 fn say(day: &[u8], lines: &[u8], text: &mut [u8]) -> Option<usize>
     requires { length text.old ≡ 65536 }
-    ensures said { Says (opening day.now) lines.now result text.new }
+    ensures said { let records = ⟦<RecordSource as Source>⟧ in
+        Says records.events records.place (opening day.now) lines.now result text.new }
     ensures long { length text.new ≡ length text.old }
 {
     match RecordSource::open(day) {
@@ -130,7 +157,8 @@ fn deliver(text: &[u8], said: Option<usize>, out: &mut [u8]) -> Option<usize>
 // Answers lines over a day, whose bytes are records, as a post with a memory of its own does, and writes what is printed to the front
 // of `out`; tells how many bytes that is, or none, with nothing written, where it is longer than `out` or than the longest text.
 pub fn answer_lines(day: &[u8], lines: &[u8], out: &mut [u8]) -> Option<usize>
-    ensures { Answers day.now lines.now out.old result out.new }
+    ensures { let records = ⟦<RecordSource as Source>⟧ in
+        Answers records.events records.place day.now lines.now out.old result out.new }
 {
     let mut text = [0; LONGEST_TEXT];
     let length = say(day, lines, &mut text);

@@ -1,5 +1,4 @@
 -- How commands are written. Assumes nothing.
---     byte s           the byte of a text of one character
 --     letter k         the letter of a measure
 --     spaced n         a space and the number n, in decimal
 --     question k q     a query's letter, stops and minutes
@@ -13,8 +12,8 @@
 --     Refused bs f     f tells that the bytes spell no command, and how many of them, from the first on,
 --                      begin one at most
 --     Answered bs a    the answer a is the command that the bytes spell, or such a fault
-use Rattle.std.specs.Prelude.{◌≡◌, ℕ, ◌≤◌, Bool, true, false, List, [], ◌∷◌, ◌++◌, length, take, Ok, Err, codes, decimal, Result, slice_index}
-use Prim.Native.String.{String}
+use Rattle.std.specs.Prelude.{◌≡◌, ℕ, ◌≤◌, Bool, true, false, List, [], ◌∷◌, ◌++◌, length, take, Ok, Err, codes, decimal, Result}
+use Rattle.std.specs.Str.{byte}
 use Rattle.faults.specs.declared.Fault.{Fault}
 use Rattle.faults.specs.declared.Fault.TheVariants.{NotACommand}
 use Rattle.journeys.specs.declared.query.Query.{Query}
@@ -22,9 +21,6 @@ use Rattle.commands.specs.declared.command.Criterion.{Criterion}
 use Rattle.commands.specs.declared.command.Criterion.TheVariants.{EarliestArrival, LatestDeparture, Fastest, LeastRiding, FewestRides, LeastWaiting}
 use Rattle.commands.specs.declared.command.Command.{Command}
 use Rattle.commands.specs.declared.command.Command.TheVariants.{Withdraw, Reinstate, Tally, Find}
-
-abbrev pub byte : String → ℕ
-byte s = slice_index (codes s) 0
 
 abbrev pub letter : Criterion → ℕ
 letter EarliestArrival = byte "e"

@@ -2,9 +2,11 @@
 #![tactic(auto)]
 
 mod command;
+mod facts;
 mod reader;
 mod writer;
 
 pub use command::{Command, Criterion};
+pub use facts::{clone_is_identity, equality_is_identity};
 pub use reader::parse;
 pub use writer::{LONGEST_TEXT, write};

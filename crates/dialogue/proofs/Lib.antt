@@ -1,2 +1,5 @@
+pub mod Continuing
+pub mod Conversing
 pub mod Lengths
 pub mod Refusals
+pub mod Room

@@ -1,2 +1,3 @@
+pub mod Conversations
 pub mod Obeying
 pub mod Tables

@@ -2,22 +2,26 @@
 -- events and place tell a source's list and place; b is what the post and the tables are before, a what they are after.
 --     Desk                 the post's source and marks; the work tables for labels that are numbers, and for labels that
 --                          are trips; the queue and the step table
+--     PostDesk S           that of a post over a source S
 --     desk source marks t  a source, marks and what the tables t hold
+--     ExtendsHistory b a   a has the source's list of b; and whatever history explains the marks of b, some history that
+--                          extends it explains those of a
+--     SameRoom b a         the work tables and the step table of a are as long as those of b
 --     by_number d, by_trip d  what a query with such labels is handed of it
 --     formula k            the plain formula of a measure's letter: its score of a journey
 --     notice_reply r, query_reply r  the reply that an answer is told by
 --     Notices k e b reply a  a notice about event e: its answer by the marks, which are all that may change
 --     Tallies b reply a    a tally; nothing changes
---     Asks .. m k q x reply y  a query under the measure m, whose scores are the formula of k; x and y are what it is
---                          handed, before and after
+--     Asks .. m k q x reply y  a query under the measure m, whose scores are the formula of k, over journeys that are
+--                          walks in the temporal graph; x and y are what it is handed, before and after
 --     AsksByNumber .., AsksByTrip ..  such a query, with the tables for the other labels as found
 --     Obeys b c reply a    what the command c does: the calls withdraw, reinstate, tally, and query under the
 --                          measure of the letter
 --     Interprets b line reply a  a line that spells a command is obeyed; any other is refused with 11, and everything
---                          is as found; the reply's line has 8,192 bytes at most
---     Responds b line m r a m'  a line is interpreted, and its reply's line written over the front of m, or there is no room:
---                          the answer r tells which, and how many bytes
-use Rattle.std.specs.Prelude.{◌≡◌, ℕ, ◌≤◌, Bool, List, length, pos, ◌-ℤ◌, Ok, Err, Option, Result}
+--                          is as found; a extends the history of b, and has its room; the reply's line has 8,192 bytes at
+--                          most
+--     Responds b line m n a m'  a line is interpreted, and its reply's line written over the front of m, n bytes long
+use Rattle.std.specs.Prelude.{◌≡◌, ℕ, ◌≤◌, Bool, List, ◌++◌, length, pos, ◌-ℤ◌, Ok, Err, Option, Result}
 use Rattle.std.specs.Result.{result_map_both}
 use Rattle.faults.specs.declared.Fault.{Fault}
 use Rattle.records.specs.declared.event.Event.{Event}
@@ -27,6 +31,7 @@ use Rattle.measures.specs.Six.{earliest, fastest, fewest_rides, latest, least_ri
 use Rattle.journeys.specs.declared.query.Query.{Query}
 use Rattle.journeys.specs.Formulas.{Plain}
 use Rattle.journeys.specs.Journeys.{beginning, ending, rides, riding, waiting}
+use Rattle.journeys.specs.Walks.{WalksAreJourneys}
 use Rattle.steps.specs.declared.arrival.Arrival.{Arrival}
 use Rattle.steps.specs.declared.board.Standing.{Standing}
 use Rattle.steps.specs.declared.entry.Entry.{Entry}
@@ -40,9 +45,9 @@ use Rattle.commands.specs.Grammar.{Spells}
 use Rattle.commands.specs.Grammar as grammar
 use Rattle.replies.specs.declared.reply.Reply.{Reply}
 use Rattle.replies.specs.declared.reply.Reply.TheVariants.{Accepted, Count, Journey}
-use Rattle.replies.specs.Printed.{Wrote, printed}
-use Rattle.timetable_post.specs.Calls.{Does, Notice, noticed, reinstatement, tallied, withdrawal}
-use Rattle.timetable_post.specs.Days.{CarriesOn}
+use Rattle.replies.specs.Printed.{Written, printed}
+use Rattle.timetable_post.specs.Calls.{Call, Does, Notice, noticed, reinstatement, tallied, withdrawal}
+use Rattle.timetable_post.specs.Days.{CarriesOn, Explains}
 use Rattle.timetable_post.specs.Queries.{Handed, Queried}
 use Rattle.dialogue.specs.declared.tables.PostTables.{PostTables}
 
@@ -56,7 +61,12 @@ pub record Desk (S X Y U V Z : Type 0) : Type 0 where
   pub queue : List Z
   pub steps : List ℕ
 
-abbrev pub desk : {S : Type 0} → S → List Bool → PostTables → Desk S (Option (Entry (Carried ℕ))) (Option (Standing (Carried ℕ))) (Option (Entry (Carried Trip))) (Option (Standing (Carried Trip))) Arrival
+abbrev pub PostDesk : Type 0 → Type 0
+PostDesk S =
+    Desk S (Option (Entry (Carried ℕ))) (Option (Standing (Carried ℕ)))
+    (Option (Entry (Carried Trip))) (Option (Standing (Carried Trip))) Arrival
+
+abbrev pub desk : {S : Type 0} → S → List Bool → PostTables → PostDesk S
 desk source marks t =
     record {
       source = source;
@@ -68,6 +78,15 @@ desk source marks t =
       queue = t.queue.now;
       steps = t.steps.now;
     }
+
+abbrev pub SameRoom : {S X Y U V Z : Type 0} → Desk S X Y U V Z → Desk S X Y U V Z → Type 0
+SameRoom b a =
+    (length a.log ≡ length b.log)
+    × (length a.board ≡ length b.board)
+    × (length a.trip_log ≡ length b.trip_log)
+    × (length a.trip_board ≡ length b.trip_board)
+    × (length a.queue ≡ length b.queue)
+    × (length a.steps ≡ length b.steps)
 
 abbrev pub formula : Criterion → List Event → List ℕ → Score
 formula EarliestArrival es js = (pos (ending es js), pos 999999 -ℤ pos (beginning es js))
@@ -96,6 +115,7 @@ pub record Asks {L S X Y Z : Type 0} (events : S → List Event) (place : S → 
   pub told : reply ≡ query_reply answer
   pub queried : Queried m events place q x answer y
   pub plain : Plain m (formula k)
+  pub walks : WalksAreJourneys
 
 module _ {S X Y U V Z : Type 0} (events : S → List Event) (place : S → ℕ) where
   pub record Notices (k : Notice) (e : ℕ) (b : Desk S X Y U V Z) (reply : Result Reply Fault) (a : Desk S X Y U V Z) : Type 0 where
@@ -130,12 +150,25 @@ module _ {S X Y U V Z : Type 0} (events : S → List Event) (place : S → ℕ) 
   Obeys b (Find FewestRides q) reply a = AsksByNumber fewest_rides FewestRides q b reply a
   Obeys b (Find LeastWaiting q) reply a = AsksByNumber least_waiting LeastWaiting q b reply a
 
-  pub record Interprets (b : Desk S X Y U V Z) (line : List ℕ) (reply : Result Reply Fault) (a : Desk S X Y U V Z) : Type 0 where
+  pub record ExtendsHistory (b a : Desk S X Y U V Z) : Type 0 where
+    pub list : events a.source ≡ events b.source
+    pub extends :
+        (h : List Call)
+        → Explains (events b.source) h b.marks
+        → (more : List Call) × Explains (events b.source) (more ++ h) a.marks
+
+  pub record Interprets
+      (b : Desk S X Y U V Z) (line : List ℕ) (reply : Result Reply Fault) (a : Desk S X Y U V Z)
+      : Type 0 where
     pub obeys : (c : Command) → Spells line c → Obeys b c reply a
     pub refuses : (f : Fault) → grammar.Refused line f → (reply ≡ Err f) × (a ≡ b)
+    pub history : ExtendsHistory b a
+    pub room : SameRoom b a
     pub short : length (printed reply a.steps) ≤ 8192
 
-  pub record Responds (b : Desk S X Y U V Z) (line m : List ℕ) (r : Option ℕ) (a : Desk S X Y U V Z) (m' : List ℕ) : Type 0 where
+  pub record Responds
+      (b : Desk S X Y U V Z) (line m : List ℕ) (n : ℕ) (a : Desk S X Y U V Z) (m' : List ℕ)
+      : Type 0 where
     pub reply : Result Reply Fault
     pub interprets : Interprets b line reply a
-    pub wrote : Wrote reply a.steps m m' r
+    pub written : Written reply a.steps m m' n

@@ -1,19 +1,19 @@
 // What a post does on a line.
-ghost use Rattle.std.specs.Prelude.{◌≡◌};
+ghost use Rattle.std.specs.Prelude.{◌≡◌, ◌≤◌, length};
 ghost use Rattle.measures.specs.Six.{fastest};
 ghost use Rattle.timetable_post.specs.Queries.{Queried};
 ghost use Rattle.dialogue.specs.Obeying.{Interprets, Obeys, Responds, by_number, by_trip, desk, query_reply};
 ghost use Rattle.dialogue.specs.Tables.{SamePostTables};
-ghost use Rattle.replies.specs.Printed.{Wrote};
+ghost use Rattle.replies.specs.Printed.{Written, printed};
 
 use crate::tables::PostTables;
 use commands::{Command, Criterion, parse};
 use faults::Fault;
-use journeys::{Query, six_measures_are_plain};
+use journeys::{Query, six_measures_are_plain, walks_are_journeys};
 use measures::{
     EarliestArrival, Fastest, FewestRides, LatestDeparture, LeastRiding, LeastWaiting, Measure,
 };
-use replies::{Reply, write};
+use replies::{LONGEST_LINE, Reply, write};
 use search::{Answer, Tables};
 use sources::Source;
 use timetable_post::Post;
@@ -68,6 +68,7 @@ fn find<S: Source + Drop>(
     ensures same { SamePostTables tables.old tables.new }
 {
     six_measures_are_plain();
+    walks_are_journeys();
     match criterion {
         Criterion::EarliestArrival => ask_by_number::<S, EarliestArrival>(post, query, tables),
         Criterion::LatestDeparture => ask_by_number::<S, LatestDeparture>(post, query, tables),
@@ -110,24 +111,31 @@ pub fn answer<S: Source + Drop>(
     obey(post, parse(line)?, tables)
 }
 
-// Answers a line, and writes the line of the reply to the front of `out`; tells how many bytes it has, or none, with nothing
-// written, where it is longer than `out`.
+/// Answers a line, and writes the line of the reply to the front of `out`; tells how many bytes it has. There is room for
+/// every reply, so that nothing is obeyed without being answered.
 pub fn respond<S: Source + Drop>(
     post: &mut Post<S>,
     line: &[u8],
     tables: &mut PostTables<'_>,
-    out: &mut [u8],
-) -> Option<usize>
-    ensures responds { Responds S.events S.place (desk post.old.source post.old.marks tables.old) line.now out.old result (desk post.new.source post.new.marks tables.new) out.new }
+    out: &mut [u8; LONGEST_LINE],
+) -> usize
+    ensures responds { let b = desk post.old.source post.old.marks tables.old in
+        let a = desk post.new.source post.new.marks tables.new in
+        Responds S.events S.place b line.now out.old result a out.new }
     ensures same { SamePostTables tables.old tables.new }
 {
     let reply = answer(post, line, tables);
     write_line(reply, tables, out)
 }
 
-// Writes the line of a reply to the front of `out`, with the steps that stand in the tables.
-fn write_line(reply: Result<Reply, Fault>, tables: &PostTables<'_>, out: &mut [u8]) -> Option<usize>
-    ensures { Wrote reply tables.now.steps.now out.old out.new result }
+// Writes the line of a reply, which is not too long, to the front of `out`, with the steps that stand in the tables.
+fn write_line(
+    reply: Result<Reply, Fault>,
+    tables: &PostTables<'_>,
+    out: &mut [u8; LONGEST_LINE],
+) -> usize
+    requires { length (printed reply tables.now.steps.now) ≤ 8192 }
+    ensures { Written reply tables.now.steps.now out.old out.new result }
 {
-    write(reply, tables.steps, out)
+    write(reply, tables.steps, out).unwrap_or(0)
 }

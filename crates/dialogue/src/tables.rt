@@ -1,4 +1,6 @@
 // The tables that a post works with.
+ghost use Rattle.std.specs.Prelude.{◌≡◌};
+
 use measures::Trip;
 use search::Carried;
 use steps::{Arrival, Entry, Standing};
@@ -13,4 +15,16 @@ pub struct PostTables<'a> {
     pub trip_board: &'a mut [Option<Standing<Carried<Trip>>>],
     pub queue: &'a mut [Arrival],
     pub steps: &'a mut [usize],
+}
+
+impl PostTables<'_> {
+    /// Ends the loan: each memory goes back to its lender with what the tables held.
+    pub fn give_back(self)
+        ensures log { self.exit.0.now ≡ self.entry.log.now }
+        ensures board { self.exit.1.0.now ≡ self.entry.board.now }
+        ensures trip_log { self.exit.1.1.0.now ≡ self.entry.trip_log.now }
+        ensures trip_board { self.exit.1.1.1.0.now ≡ self.entry.trip_board.now }
+        ensures queue { self.exit.1.1.1.1.0.now ≡ self.entry.queue.now }
+        ensures steps { self.exit.1.1.1.1.1.0.now ≡ self.entry.steps.now }
+    {}
 }

@@ -1,7 +1,9 @@
 // Every refusal of the engine: one type, carried by `?` from a record up to the program.
 #![tactic(auto)]
 
-ghost use Rattle.std.specs.Prelude.{◌≡◌, Some};
+ghost use Rattle.std.specs.Prelude.{◌≡◌, Some, IsTrue, ◌↔◌};
+ghost use Rattle.faults.specs.declared.Fault.{Fault};
+ghost use Rattle.faults.specs.declared.Report.{Report};
 ghost use Rattle.faults.specs.Numbered.{report, reported, told};
 
 use std::error::Error;
@@ -106,3 +108,28 @@ impl fmt::Display for Fault {
 }
 
 impl Error for Fault {}
+
+/// A report prints as its text, and a fault as that of its report.
+pub fn displays_are_words()
+    ensures report { (r : Report) → ⟦<Report as fmt::Display>⟧.output r ≡ Some (told r) }
+    ensures fault { (f : Fault) → ⟦<Fault as fmt::Display>⟧.output f ≡ Some (told (reported f)) }
+{}
+
+/// A fault converts to its report, and to no other.
+pub fn reports_are_of_faults()
+    ensures { (f : Fault) (r : Report) → ⟦<Report as From<Fault>>⟧.from_gives f r → r ≡ reported f }
+{}
+
+/// Two faults, and two reports, compare equal exactly where they are the same.
+pub fn equality_is_identity()
+    ensures faults { (a b : Fault) → IsTrue (⟦<Fault as PartialEq>⟧.eq a b) ↔ (a ≡ b) }
+    ensures reports { (a b : Report) → IsTrue (⟦<Report as PartialEq>⟧.eq a b) ↔ (a ≡ b) }
+{}
+
+/// The clone of a fault, and of a report, is the same, and is never refused.
+pub fn clone_is_identity()
+    ensures faults { let clones = ⟦<Fault as Clone>⟧ in
+        (a b : Fault) → clones.is_infallible a × (clones.is_clone a b → b ≡ a) }
+    ensures reports { let clones = ⟦<Report as Clone>⟧ in
+        (a b : Report) → clones.is_infallible a × (clones.is_clone a b → b ≡ a) }
+{}

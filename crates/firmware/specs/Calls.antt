@@ -2,11 +2,13 @@
 --     length_coded r       a length by itself, none as -1
 --     coded r              a count by itself; of a fault its number, times 2 ^ 40, its layer, times 2 ^ 32, and its place, which
 --                          counts as 2 ^ 32 - 1 where it is above that, as no place in a load is
---     AnswersCoded day lines m n m'  lines are answered over a day, and n tells the answer
+--     AnswersCoded .. day lines m n m'  lines are answered over a day, and n tells the answer; events and place tell the list and
+--                          place of the source that the post stands on
 --     LoadsCoded m bs n m'  records are loaded, and n tells the answer
 use Rattle.std.specs.Prelude.{◌≡◌, ℕ, ◌+◌, ◌-◌, ◌*◌, ◌^◌, min, List, ℤ, pos, negsuc, Some, None, Ok, Err, Option, Result}
 use Rattle.faults.specs.declared.Fault.{Fault}
 use Rattle.faults.specs.Numbered.{reported}
+use Rattle.records.specs.declared.event.Event.{Event}
 use Rattle.byte_calls.specs.Conversations.{Answers}
 use Rattle.byte_calls.specs.Loadings.{Loads}
 
@@ -18,9 +20,12 @@ abbrev pub coded : Result ℕ Fault → ℕ
 coded (Ok n) = n
 coded (Err f) = (reported f).number * 2 ^ 40 + (reported f).layer * 2 ^ 32 + min (reported f).place (2 ^ 32 - 1)
 
-pub record AnswersCoded (day lines m : List ℕ) (n : ℤ) (m' : List ℕ) : Type 0 where
+pub record AnswersCoded
+    {S : Type 0} (events : S → List Event) (place : S → ℕ) (day lines m : List ℕ) (n : ℤ)
+    (m' : List ℕ)
+    : Type 0 where
   pub answer : Option ℕ
-  pub answers : Answers day lines m answer m'
+  pub answers : Answers events place day lines m answer m'
   pub told : n ≡ length_coded answer
 
 pub record LoadsCoded (m bs : List ℕ) (n : ℕ) (m' : List ℕ) : Type 0 where

@@ -7,12 +7,14 @@ ghost use Rattle.firmware.specs.Calls.{AnswersCoded, LoadsCoded, coded};
 
 use byte_calls::{answer_lines, load_records};
 use faults::{Fault, Report};
+use sources::{RecordSource, Source};
 
 // Answers lines over the records of a day, and writes what is printed to the front of `out`; tells its length, or -1, with
 // nothing written, where it is longer than `out` or than 65,536 bytes.
 #[unsafe(no_mangle)]
 pub extern "C" fn firmware_answer_lines(day: &[u8], lines: &[u8], out: &mut [u8]) -> isize
-    ensures { AnswersCoded day.now lines.now out.old result out.new }
+    ensures { let records = ⟦<RecordSource as Source>⟧ in
+        AnswersCoded records.events records.place day.now lines.now out.old result out.new }
 {
     match answer_lines(day, lines, out) {
         Some(length) => length as isize,

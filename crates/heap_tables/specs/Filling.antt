@@ -1,10 +1,7 @@
 -- Tables on the heap. Assumes nothing.
 --     lengths_for n        the least lengths of tables for n events, up to 2 ^ 64 - 1
 --     Filled l s t         the tables t have the lengths l, and s in each slot
---     Lent t u             the tables u are lent with what t holds
 use Rattle.std.specs.Prelude.{◌≡◌, ℕ, ◌-◌, ◌*◌, ◌^◌, min, replicate}
-use Rattle.search.specs.declared.carried.Carried.{Carried}
-use Rattle.search.specs.declared.tables.Tables.{Tables}
 use Rattle.heap_tables.specs.declared.HeapTables.{HeapTables}
 use Rattle.heap_tables.specs.declared.Lengths.{Lengths}
 use Rattle.heap_tables.specs.declared.Slots.{Slots}
@@ -19,9 +16,3 @@ pub record Filled {L : Type 0} (l : Lengths) (s : Slots L) (t : HeapTables L) : 
   pub board : t.board.items ≡ replicate l.board s.standing
   pub queue : t.queue.items ≡ replicate l.queue s.arrival
   pub steps : t.steps.items ≡ replicate l.steps s.step
-
-pub record Lent {L : Type 0} (t : HeapTables L) (u : Tables (Carried L)) : Type 0 where
-  pub log : u.log.now ≡ t.log.items
-  pub board : u.board.now ≡ t.board.items
-  pub queue : u.queue.now ≡ t.queue.items
-  pub steps : u.steps.now ≡ t.steps.items

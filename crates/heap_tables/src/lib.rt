@@ -1,11 +1,22 @@
 // The tables of a search on the heap, for programs and tests that have one.
 #![tactic(auto)]
 
-ghost use Rattle.std.specs.Prelude.{◌≡◌, ◌==◌, drop, replicate, IfOk};
+ghost use Rattle.std.specs.Prelude.{◌≡◌, ◌==◌, length, drop, replicate, Some, IfOk, MatchResult, OnErr};
 ghost use Rattle.std.specs.List.{list_all};
-ghost use Rattle.heap_tables.specs.Filling.{Filled, Lent, lengths_for};
+ghost use Rattle.faults.specs.Rules.{Kept, first_broken};
+ghost use Rattle.journeys.specs.Verdicts.{in_force};
+ghost use Rattle.search.specs.Queries.{lengths_in, table_rules};
+ghost use Rattle.search.specs.Searches.{Found, reads_of};
+ghost use Rattle.heap_tables.specs.Filling.{Filled, lengths_for};
+ghost use Rattle.heap_tables.specs.Searching.{SameLengths, SameSlots, rules_for};
 
-use search::{BOARD_SLOTS, Carried, Tables};
+mod facts;
+
+pub use facts::{clone_is_identity, defaults_are_empty, equality_is_identity};
+use faults::Fault;
+use measures::Measure;
+use search::{Answer, BOARD_SLOTS, Carried, CheckedQuery, Tables, search};
+use sources::Source;
 use std::alloc::{AllocError, Global};
 use steps::{Arrival, Entry, Standing};
 
@@ -64,6 +75,41 @@ fn filled<T: Copy>(heap: Global, slots: usize, value: T) -> Result<Vec<T>, Alloc
     Ok(table)
 }
 
+// Searches in four slices, which are lent for the search alone, one by one, since nothing tells what vectors hold once a struct was lent them.
+fn search_in<S: Source, M: Measure>(
+    source: &mut S,
+    marks: &[bool],
+    query: CheckedQuery,
+    log: &mut [Option<Entry<Carried<M::Label>>>],
+    board: &mut [Option<Standing<Carried<M::Label>>>],
+    queue: &mut [Arrival],
+    steps: &mut [usize],
+) -> Result<Option<Answer>, Fault>
+    ensures found { let es = S.events source.old in
+        let rules = table_rules (length es) (lengths_in log.old board.old queue.old steps.old) in
+        MatchResult result
+        (λ o. Kept rules × Found M.ops es (in_force marks.now) query.query steps.old o steps.new)
+        (λ f. first_broken rules ≡ Some f) }
+    ensures read { let es = S.events source.old in
+        MatchResult result
+        (λ _. (S.events source.new ≡ es) × (S.place source.new ≡ reads_of es query.query.close))
+        (λ _. source.new ≡ source.old) }
+    ensures log { OnErr result (log.new ≡ log.old) }
+    ensures board { OnErr result (board.new ≡ board.old) }
+    ensures queue { OnErr result (queue.new ≡ queue.old) }
+    ensures steps { OnErr result (steps.new ≡ steps.old) }
+{
+    let mut lent = Tables {
+        log,
+        board,
+        queue,
+        steps,
+    };
+    let answer = search::<S, M>(source, marks, query, &mut lent);
+    lent.give_back();
+    answer
+}
+
 // A log of entries, a board of who stands ready, a queue of awaited arrivals, and a table of steps.
 #[derive(Drop)]
 pub struct HeapTables<L> {
@@ -86,38 +132,84 @@ impl<L: Copy> HeapTables<L> {
         })
     }
 
-    // These tables as a search is handed them.
-    pub fn lend(&mut self) -> Tables<'_, Carried<L>>
-        ensures { Lent self.old result }
+    /// Searches in these tables: finds the best journey for a query over the events that the marks
+    /// leave in force, and writes its event numbers into the front of the step table; none where no
+    /// journey fits, and then the step table is as it was.
+    ///
+    /// # Errors
+    ///
+    /// Fault 16 where a work table is too short for the source's events, and 17 where the step
+    /// table is; the source and the tables are then as they were.
+    pub fn search<S: Source, M: Measure<Label = L>>(
+        &mut self,
+        source: &mut S,
+        marks: &[bool],
+        query: CheckedQuery,
+    ) -> Result<Option<Answer>, Fault>
+        ensures found { let es = S.events source.old in
+            let rules = rules_for es self.old in
+            let steps = self.old.steps.items in
+            let steps' = self.new.steps.items in
+            MatchResult result
+            (λ o. Kept rules × Found M.ops es (in_force marks.now) query.query steps o steps')
+            (λ f. first_broken rules ≡ Some f) }
+        ensures read { let es = S.events source.old in
+            MatchResult result
+            (λ _. (S.events source.new ≡ es) × (S.place source.new ≡ reads_of es query.query.close))
+            (λ _. source.new ≡ source.old) }
+        ensures refused { OnErr result (SameSlots self.old self.new) }
+        ensures lengths { SameLengths self.old self.new }
     {
-        Tables {
-            log: &mut self.log,
-            board: &mut self.board,
-            queue: &mut self.queue,
-            steps: &mut self.steps,
-        }
+        search_in::<S, M>(
+            source,
+            marks,
+            query,
+            &mut self.log,
+            &mut self.board,
+            &mut self.queue,
+            &mut self.steps,
+        )
     }
 }
 
 #[cfg(test)]
 mod tests {
     use super::*;
+    use journeys::Query;
+    use measures::EarliestArrival;
+    use records::{Event, write};
+    use sources::RecordSource;
     use std::test::Fail;
 
+    // The only ride, in force and out of it, in a step table that is longer than it needs to be.
     #[test]
-    fn lent_as_they_were_made(rt: HostRuntime) -> Result<(), Fail> {
+    fn searched_in_place(rt: HostRuntime) -> Result<(), Fail> {
+        let ride = Event::Ride {
+            from: 1,
+            to: 2,
+            departure: 110,
+            duration: 20,
+        };
+        let mut source = RecordSource::open(&write(ride)?)?;
+        let query = CheckedQuery::new(Query {
+            from: 1,
+            to: 2,
+            open: 100,
+            close: 200,
+            call: false,
+        })?;
         let slots = Slots::<u32> {
             step: 9,
             ..Slots::default()
         };
         let mut tables = HeapTables::new(rt.alloc(), Lengths::for_events(3), slots)?;
-        let lent = tables.lend();
-        assert_eq!(rt; &*lent.log, [None; 6].as_slice());
-        assert_eq!(rt; &*lent.board, [None; 512].as_slice());
-        assert_eq!(rt; lent.queue.len(), 6);
-        assert_eq!(rt; &*lent.steps, [9; 3].as_slice());
-        lent.steps[1] = 7;
-        assert_eq!(rt; tables.steps.as_slice(), [9, 7, 9].as_slice());
+        let none = tables.search::<RecordSource, EarliestArrival>(&mut source, &[true], query);
+        assert_eq!(rt; none, Ok(None));
+        assert_eq!(rt; tables.steps.as_slice(), [9, 9, 9].as_slice());
+        let found = tables.search::<RecordSource, EarliestArrival>(&mut source, &[], query);
+        assert!(rt; found.is_ok_and(|answer| answer.is_some()));
+        assert_eq!(rt; tables.steps.as_slice(), [0, 9, 9].as_slice());
+        assert_eq!(rt; tables.board.len(), 512);
         Ok(())
     }
 }

@@ -6,6 +6,11 @@
 //     j FROM TO OPEN CLOSE CALL STEP.. prints 'none', or begin, end, riding, rides and the six scores
 #![tactic(auto)]
 
+ghost use Rattle.std.specs.Prelude.{◌≡◌, MatchOption};
+ghost use Rattle.journeys.specs.Journeys.{Fits};
+ghost use Rattle.journeys.specs.Verdicts.{Judged, in_force};
+ghost use Rattle.judging.specs.Scores.{other_scores};
+
 use journeys::{Query, Verdict, judge};
 use measures::{
     EarliestArrival, Fastest, FewestRides, LatestDeparture, LeastRiding, LeastWaiting, Measure,
@@ -19,12 +24,21 @@ use std::io::{BufRead, BufReader};
 const WORDS_OF_A_QUESTION: usize = 6;
 
 // What a list of event numbers is under a measure, if it is a journey that fits.
-fn verdict<M: Measure>(day: &Day, query: Query, steps: &[usize]) -> Option<Verdict> {
+fn verdict<M: Measure>(day: &Day, query: Query, steps: &[usize]) -> Option<Verdict>
+    ensures { let es = day.now.events.items in let p = in_force day.now.marks.items in
+        Judged M.ops es p query steps.now result }
+{
     judge::<M>(&day.events, &day.marks, query, steps)
 }
 
 // The scores of a list under the other five measures, or none where it does not fit.
-fn scores(day: &Day, query: Query, steps: &[usize]) -> Option<[(i64, i64); 5]> {
+fn scores(day: &Day, query: Query, steps: &[usize]) -> Option<[(i64, i64); 5]>
+    ensures { let es = day.now.events.items in
+        let p = in_force day.now.marks.items in
+        MatchOption result
+        (Fits es p query steps.now → ⊥)
+        (λ found. Fits es p query steps.now × (found ≡ other_scores es steps.now)) }
+{
     Some([
         verdict::<LatestDeparture>(day, query, steps)?.score,
         verdict::<Fastest>(day, query, steps)?.score,

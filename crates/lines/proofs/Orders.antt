@@ -9,7 +9,7 @@ use Rattle.std.specs.List.Sorted.{IsPermutation}
 use Rattle.queue.specs.Order.{Rising}
 use Rattle.lines.specs.declared.departure.Departure.{Departure}
 use Rattle.lines.specs.declared.line.Line.{Line}
-use Rattle.lines.specs.Departures.{OnlyOne, Timetable, before, departing, departures, insert, ride_on, runs, sorted}
+use Rattle.lines.specs.Departures.{OnlyOne, Timetable, before, departing, departures, ordered_insertion, ride_on, runs, sorted}
 use Rattle.lines.specs.Merges.{Drew}
 use Rattle.lines.proofs.Drawing.{bit_zero, departure_eq, none_sooner, sooner}
 
@@ -25,36 +25,36 @@ irreflexive x = grind (arith, nat_tests)
 connected : (x y : Departure) → before x y ≡ false → before y x ≡ false → x ≡ y
 connected x y h k = departure_eq x y (grind (arith, nat_tests)) (grind (arith, nat_tests))
 
-insert_shuffled : (x : Departure) (ys : List Departure) → IsPermutation (x ∷ ys) (insert x ys)
-insert_shuffled x [] = IsPermutation-refl (x ∷ [])
-insert_shuffled x (y ∷ ys) =
-    let P : Bool → Type 0 = λ b. IsPermutation (x ∷ y ∷ ys) (cond b (y ∷ insert x ys) (x ∷ y ∷ ys)) in
+insertion_shuffled : (x : Departure) (ys : List Departure) → IsPermutation (x ∷ ys) (ordered_insertion x ys)
+insertion_shuffled x [] = IsPermutation-refl (x ∷ [])
+insertion_shuffled x (y ∷ ys) =
+    let P : Bool → Type 0 = λ b. IsPermutation (x ∷ y ∷ ys) (cond b (y ∷ ordered_insertion x ys) (x ∷ y ∷ ys)) in
     elim (before y x) as P [
       | true ↦
-          IsPermutation-trans (x ∷ y ∷ ys) (y ∷ x ∷ ys) (y ∷ insert x ys)
+          IsPermutation-trans (x ∷ y ∷ ys) (y ∷ x ∷ ys) (y ∷ ordered_insertion x ys)
           (IsPermutation-swap (x ∷ y ∷ ys) (y ∷ x ∷ ys) 0 1 (omega arith) (omega arith) refl)
-          (IsPermutation-cons y (x ∷ ys) (insert x ys) (insert_shuffled x ys))
+          (IsPermutation-cons y (x ∷ ys) (ordered_insertion x ys) (insertion_shuffled x ys))
       | false ↦ IsPermutation-refl (x ∷ y ∷ ys)
     ]
 
-insert_rising : (x : Departure) (ys : List Departure) → Rising before ys → Rising before (insert x ys)
-insert_rising x [] h = (tt, tt)
-insert_rising x (y ∷ ys) h =
-    let P : Bool → Type 0 = λ b. before y x ≡ b → Rising before (cond b (y ∷ insert x ys) (x ∷ y ∷ ys)) in
+insertion_rising : (x : Departure) (ys : List Departure) → Rising before ys → Rising before (ordered_insertion x ys)
+insertion_rising x [] h = (tt, tt)
+insertion_rising x (y ∷ ys) h =
+    let P : Bool → Type 0 = λ b. before y x ≡ b → Rising before (cond b (y ∷ ordered_insertion x ys) (x ∷ y ∷ ys)) in
     elim (before y x) as P [
       | true ↦
-          λ e. (all_shuffled (λ z. before z y ≡ false) (x ∷ ys) (insert x ys) (insert_shuffled x ys) (asymmetric y x e, h.0), insert_rising x ys h.1)
+          λ e. (all_shuffled (λ z. before z y ≡ false) (x ∷ ys) (ordered_insertion x ys) (insertion_shuffled x ys) (asymmetric y x e, h.0), insertion_rising x ys h.1)
       | false ↦ λ e. ((e, All-weaker (λ z. before z y ≡ false) (λ z. before z x ≡ false) (λ z k. cotransitive z y x k e) ys h.0), h)
     ] refl
 
 pub sorted_shuffled : (xs : List Departure) → IsPermutation xs (sorted xs)
 sorted_shuffled [] = IsPermutation-refl []
 sorted_shuffled (x ∷ xs) =
-    IsPermutation-trans (x ∷ xs) (x ∷ sorted xs) (insert x (sorted xs)) (IsPermutation-cons x xs (sorted xs) (sorted_shuffled xs)) (insert_shuffled x (sorted xs))
+    IsPermutation-trans (x ∷ xs) (x ∷ sorted xs) (ordered_insertion x (sorted xs)) (IsPermutation-cons x xs (sorted xs) (sorted_shuffled xs)) (insertion_shuffled x (sorted xs))
 
 pub sorted_rising : (xs : List Departure) → Rising before (sorted xs)
 sorted_rising [] = tt
-sorted_rising (x ∷ xs) = insert_rising x (sorted xs) (sorted_rising xs)
+sorted_rising (x ∷ xs) = insertion_rising x (sorted xs) (sorted_rising xs)
 
 first_sooner : (x : Departure) (xs : List Departure) → Rising before (x ∷ xs) → sum_by (sooner x) (x ∷ xs) ≡ 0
 first_sooner x xs h = none_sooner x (x ∷ xs) (irreflexive x, h.0)

@@ -9,7 +9,8 @@
 --     ride_on ls d        the ride of a departure
 --     Timetable ls es     es are the rides of all lines, rearranged by departure and then by line position
 --     OnlyOne             lines have only one such list
---     insert x ds, sorted ds  x put before the first departure that it does not follow; all of ds so put in order
+--     ordered_insertion x ds  ds with x put before the first departure that it does not follow
+--     sorted ds           all of ds, so put in order
 --     departures ls       the departures of all lines in order
 --     events_on ls        their rides, which are a timetable
 use Rattle.std.specs.Prelude.{◌≡◌, ℕ, zero, suc, ◌+◌, Bool, cond, ◌&&◌, ◌||◌, List, [], ◌∷◌, ◌++◌, map, ◌==◌, nat_lt, slice_index_or}
@@ -56,13 +57,13 @@ pub record Timetable (ls : List Line) (es : List Event) : Type 0 where
 abbrev pub OnlyOne : Type 0
 OnlyOne = (ls : List Line) (es es' : List Event) → Timetable ls es → Timetable ls es' → es ≡ es'
 
-abbrev pub insert : Departure → List Departure → List Departure
-insert x [] = x ∷ []
-insert x (y ∷ ys) = cond (before y x) (y ∷ insert x ys) (x ∷ y ∷ ys)
+abbrev pub ordered_insertion : Departure → List Departure → List Departure
+ordered_insertion x [] = x ∷ []
+ordered_insertion x (y ∷ ys) = cond (before y x) (y ∷ ordered_insertion x ys) (x ∷ y ∷ ys)
 
 abbrev pub sorted : List Departure → List Departure
 sorted [] = []
-sorted (x ∷ xs) = insert x (sorted xs)
+sorted (x ∷ xs) = ordered_insertion x (sorted xs)
 
 abbrev pub departures : List Line → List Departure
 departures ls = sorted (runs ls)

@@ -16,19 +16,27 @@
 --     lines_of bs      the lines of a block, in their order
 --     no_line          what stands in the part of a table that holds no line
 --     table ls         a table of 32 lines that begins with ls
-use Rattle.std.specs.Prelude.{ℕ, ◌+◌, ◌-◌, ◌*◌, Bool, not, ◌&&◌, List, [], ◌∷◌, ◌++◌, map, length, take, replicate, sum_by, ◌==◌, nat_le}
+use Rattle.std.specs.Prelude.{ℕ, ◌+◌, ◌-◌, ◌*◌, Bool, not, ◌&&◌, List, [], ◌∷◌, ◌++◌, map, length, take, replicate, sum_by, ◌==◌, nat_le, slice_index}
 use Rattle.std.specs.List.{flat_map, range_with_len}
 use Rattle.faults.specs.declared.Fault.TheVariants.{WrongKind, SpareByteSet, EqualStops, DurationOutOfRange, NoRepetition, TimeOutOfRange, TooManyRides}
 use Rattle.faults.specs.Rules.{Rule}
-use Rattle.records.specs.Layout.{byte, half, word}
+use Rattle.records.specs.Layout.{half, word}
 use Rattle.blocks.specs.Rows.{record_at, records_of, size_rules}
 use Rattle.lines.specs.declared.line.Line.{Line}
 
 abbrev pub line_in : List ℕ → Line
-line_in bs = record { from = byte bs 1; to = byte bs 2; first = word bs 4; duration = half bs 8; interval = half bs 10; rides = half bs 12 }
+line_in bs =
+    record {
+      from = slice_index bs 1;
+      to = slice_index bs 2;
+      first = word bs 4;
+      duration = half bs 8;
+      interval = half bs 10;
+      rides = half bs 12;
+    }
 
 abbrev pub spare_clear : List ℕ → Bool
-spare_clear bs = byte bs 3 == 0 && (byte bs 14 == 0 && byte bs 15 == 0)
+spare_clear bs = slice_index bs 3 == 0 && (slice_index bs 14 == 0 && slice_index bs 15 == 0)
 
 abbrev pub last_arrival : Line → ℕ
 last_arrival l = l.first + (l.rides - 1) * l.interval + l.duration
@@ -42,7 +50,10 @@ line_limits p l =
     ∷ []
 
 abbrev pub line_rules : ℕ → List ℕ → List Rule
-line_rules p bs = ((byte bs 0 == 3), WrongKind p) ∷ (spare_clear bs, SpareByteSet p) ∷ line_limits p (line_in bs)
+line_rules p bs =
+    ((slice_index bs 0 == 3), WrongKind p)
+    ∷ (spare_clear bs, SpareByteSet p)
+    ∷ line_limits p (line_in bs)
 
 abbrev pub few_rides : ℕ → ℕ → List Rule
 few_rides p n = (nat_le n 1024, TooManyRides p) ∷ []

@@ -3,9 +3,11 @@
 
 mod cursor;
 mod departure;
+mod facts;
 mod line;
 mod line_source;
 mod line_table;
 mod merge;
 
+pub use facts::orders_are_total;
 pub use line_source::LineSource;

@@ -1,5 +1,5 @@
 // A source of rides over a block of lines.
-ghost use Rattle.std.specs.Prelude.{◌≡◌, ℕ, ◌≤◌, length, drop, Some, sum_by, MatchResult};
+ghost use Rattle.std.specs.Prelude.{◌≡◌, ℕ, ◌≤◌, length, drop, Some, sum_by, IfErr, IfOk};
 ghost use Rattle.faults.specs.Rules.{first_broken};
 ghost use Rattle.lines.specs.declared.departure.Departure.{Departure as Departing};
 ghost use Rattle.lines.specs.Departures.{OnlyOne, departures, events_on};
@@ -26,7 +26,9 @@ pub struct LineSource {
 impl LineSource {
     // Opens any bytes as a block of lines: a source of all their rides at the first one, or the block's first fault.
     pub fn open(bytes: &[u8]) -> Result<LineSource, Fault>
-        ensures value { MatchResult result (λ s. Opened bytes.now (events_on s.table.lines) s.place) (λ f. first_broken (block_rules bytes.now) ≡ Some f) }
+        ensures opened { let source = ⟦<LineSource as Source>⟧ in
+            IfOk result (λ s. Opened bytes.now (source.events s) (source.place s)) }
+        ensures refused { IfErr result (λ f. first_broken (block_rules bytes.now) ≡ Some f) }
         ensures only { OnlyOne }
     {
         let table = LineTable::open(bytes)?;

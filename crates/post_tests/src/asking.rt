@@ -3,7 +3,7 @@ use faults::Report;
 use heap_tables::HeapTables;
 use journeys::Query;
 use measures::{EarliestArrival, LatestDeparture};
-use search::Answer;
+use search::{Answer, Tables};
 use sources::Source;
 use timetable_post::Post;
 
@@ -32,8 +32,14 @@ pub fn ask<S: Source + Drop>(
     query: Query,
     tables: &mut HeapTables<u32>,
 ) -> Result<Answer, Report> {
+    let mut lent = Tables {
+        log: &mut tables.log,
+        board: &mut tables.board,
+        queue: &mut tables.queue,
+        steps: &mut tables.steps,
+    };
     Ok(match letter {
-        Letter::E => post.query::<EarliestArrival>(query, &mut tables.lend())?,
-        Letter::L => post.query::<LatestDeparture>(query, &mut tables.lend())?,
+        Letter::E => post.query::<EarliestArrival>(query, &mut lent)?,
+        Letter::L => post.query::<LatestDeparture>(query, &mut lent)?,
     })
 }

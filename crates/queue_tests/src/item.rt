@@ -1,5 +1,5 @@
 // A key with a tag, ordered by the key and then by the tag: no two elements tie.
-ghost use Rattle.std.specs.Prelude.{◌&&◌, ◌||◌, ◌==◌, nat_lt};
+ghost use Rattle.std.specs.Prelude.{◌≡◌, IsTrue, ◌↔◌, ◌&&◌, ◌||◌, ◌==◌, nat_lt};
 ghost use Rattle.std.proofs.Common.{rules};
 
 use crate::random::Random;
@@ -32,3 +32,8 @@ impl Precedence for Item {
         self < other
     }
 }
+
+// Two items compare equal exactly where they are the same.
+pub fn equality_is_identity()
+    ensures { (a b : Item) → IsTrue (⟦<Item as PartialEq>⟧.eq a b) ↔ (a ≡ b) }
+{}

@@ -1,5 +1,4 @@
 -- The sixteen bytes of a record. Assumes nothing.
---     byte bs i        the byte at i
 --     half bs i        the number in the two bytes from i, highest first
 --     word bs i        the number in the four bytes from i, highest first
 --     event_in bs      the event that the fields of a record give
@@ -23,24 +22,27 @@ use Rattle.records.specs.declared.kind.Kind.TheVariants.{Opening as OpeningKind,
 use Rattle.records.specs.Events.{limits}
 use Rattle.records.specs.Kinds.{spare_of}
 
-abbrev pub byte : List ℕ → ℕ → ℕ
-byte bs i = slice_index bs i
-
 abbrev pub half : List ℕ → ℕ → ℕ
-half bs i = byte bs i * 256 + byte bs (i + 1)
+half bs i = slice_index bs i * 256 + slice_index bs (i + 1)
 
 abbrev pub word : List ℕ → ℕ → ℕ
-word bs i = byte bs i * 16777216 + byte bs (i + 1) * 65536 + byte bs (i + 2) * 256 + byte bs (i + 3)
+word bs i =
+    slice_index bs i * 16777216
+    + slice_index bs (i + 1) * 65536
+    + slice_index bs (i + 2) * 256
+    + slice_index bs (i + 3)
 
 abbrev pub is_opening : List ℕ → Bool
-is_opening bs = byte bs 0 == 1
+is_opening bs = slice_index bs 0 == 1
 
 abbrev pub is_ride : List ℕ → Bool
-is_ride bs = byte bs 0 == 2
+is_ride bs = slice_index bs 0 == 2
 
 abbrev pub event_in : List ℕ → Event
 event_in bs =
-    cond (is_opening bs) (Opening (byte bs 1) (word bs 4)) (Ride (byte bs 1) (byte bs 2) (word bs 4) (half bs 8))
+    cond (is_opening bs)
+    (Opening (slice_index bs 1) (word bs 4))
+    (Ride (slice_index bs 1) (slice_index bs 2) (word bs 4) (half bs 8))
 
 abbrev pub spare : List ℕ → List ℕ
 spare bs = cond (is_opening bs) (spare_of OpeningKind bs) (spare_of RideKind bs)

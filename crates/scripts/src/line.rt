@@ -4,8 +4,9 @@
 //     r FROM TO DEPARTURE DURATION     its next event, a ride
 //     x NUMBER                         the event with this number is out of force
 //     j or q, FROM TO OPEN CLOSE CALL  a question about the day; what stands behind it is the program's to read
-ghost use Rattle.std.specs.Prelude.{Some};
+ghost use Rattle.std.specs.Prelude.{◌≡◌, ℕ, List, drop, Some};
 ghost use Rattle.scripts.specs.Errors.{told};
+ghost use Rattle.scripts.specs.Lines.{NumberTaken, WordsLeft, line_in, opening_in, question_in, ride_in};
 
 use journeys::Query;
 use records::Event;
@@ -45,22 +46,28 @@ impl fmt::Display for LineError {
 impl Error for LineError {}
 
 // The next word as a number.
-fn next<T: FromStr>(words: &mut Split<char>) -> Result<T, LineError>
+fn next<T: FromStr + Drop>(words: &mut Split<char>) -> Result<T, LineError>
 where
     T::Err: Drop,
+    ensures { (ws : List (List ℕ)) → WordsLeft words.old ws →
+        NumberTaken T.from_str_gives ws result × WordsLeft words.new (drop 1 ws) }
 {
     let word = words.next().ok_or(LineError::MissingNumber)?;
-    word.parse::<T>().map_err(|_| LineError::NotANumber)
+    word.parse::<T>().or(Err(LineError::NotANumber))
 }
 
-fn opening(words: &mut Split<char>) -> Result<Event, LineError> {
+fn opening(words: &mut Split<char>) -> Result<Event, LineError>
+    ensures { (ws : List (List ℕ)) → WordsLeft words.old ws → result ≡ opening_in ws }
+{
     Ok(Event::Opening {
         stop: next(words)?,
         minute: next(words)?,
     })
 }
 
-fn ride(words: &mut Split<char>) -> Result<Event, LineError> {
+fn ride(words: &mut Split<char>) -> Result<Event, LineError>
+    ensures { (ws : List (List ℕ)) → WordsLeft words.old ws → result ≡ ride_in ws }
+{
     Ok(Event::Ride {
         from: next(words)?,
         to: next(words)?,
@@ -69,7 +76,9 @@ fn ride(words: &mut Split<char>) -> Result<Event, LineError> {
     })
 }
 
-fn query(words: &mut Split<char>) -> Result<Query, LineError> {
+fn query(words: &mut Split<char>) -> Result<Query, LineError>
+    ensures { (ws : List (List ℕ)) → WordsLeft words.old ws → result ≡ question_in ws }
+{
     Ok(Query {
         from: next(words)?,
         to: next(words)?,
@@ -82,14 +91,19 @@ fn query(words: &mut Split<char>) -> Result<Query, LineError> {
 impl FromStr for DayLine {
     type Err = LineError;
 
+    ghost from_str_gives = { λ line r. r ≡ line_in line };
+
     fn from_str(line: &str) -> Result<DayLine, LineError> {
         let mut words = line.split(' ');
-        match words.next() {
-            Some("d") => Ok(DayLine::New),
-            Some("o") => Ok(DayLine::Add(opening(&mut words)?)),
-            Some("r") => Ok(DayLine::Add(ride(&mut words)?)),
-            Some("x") => Ok(DayLine::Withdraw(next(&mut words)?)),
-            Some("j" | "q") => Ok(DayLine::Ask(query(&mut words)?)),
+        let letter = words.next().ok_or(LineError::UnknownLetter)?;
+        // An arm for each letter, since the proof of a joined one is not told which it met.
+        match letter {
+            "d" => Ok(DayLine::New),
+            "o" => Ok(DayLine::Add(opening(&mut words)?)),
+            "r" => Ok(DayLine::Add(ride(&mut words)?)),
+            "x" => Ok(DayLine::Withdraw(next(&mut words)?)),
+            "j" => Ok(DayLine::Ask(query(&mut words)?)),
+            "q" => Ok(DayLine::Ask(query(&mut words)?)),
             _ => Err(LineError::UnknownLetter),
         }
     }

@@ -1,7 +1,7 @@
 // A query that has passed its checks.
 ghost use Rattle.std.specs.Prelude.{◌≡◌, ◌≤◌, false, ◌==◌};
 ghost use Rattle.std.specs.Result.{result_map_both};
-ghost use Rattle.search.specs.Queries.{checked};
+ghost use Rattle.journeys.specs.Queries.{checked};
 
 use faults::Fault;
 use journeys::Query;

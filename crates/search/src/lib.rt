@@ -4,6 +4,7 @@
 mod answer;
 mod asked;
 mod carried;
+mod facts;
 mod finder;
 mod lead;
 mod read;
@@ -13,5 +14,6 @@ mod trace;
 pub use answer::Answer;
 pub use asked::CheckedQuery;
 pub use carried::{Carried, Carrying};
+pub use facts::{carryings_are_defined, clone_is_identity, equality_is_identity};
 pub use finder::search;
 pub use tables::{BOARD_SLOTS, Tables};

@@ -1,11 +1,19 @@
 // A search under one measure, whose answer is held against the judge before it is told.
+ghost use Rattle.std.specs.Prelude.{◌≡◌, Decides, MatchResult, Some, codes};
+ghost use Rattle.faults.specs.declared.Fault.{Fault};
+ghost use Rattle.faults.specs.Rules.{Kept, first_broken};
+ghost use Rattle.heap_tables.specs.Searching.{rules_for};
+ghost use Rattle.journeys.specs.Verdicts.{in_force};
+ghost use Rattle.searching.specs.Holding.{Holds, IsBest};
+ghost use Rattle.searching.specs.Shown.{shown};
+
 use crate::day::reads;
 use heap_tables::{HeapTables, NONSENSE, is_nonsense_behind};
 use journeys::judge;
 use measures::Measure;
 use scripts::Day;
-use search::{Answer, CheckedQuery, search};
-use sources::RecordSource;
+use search::{Answer, CheckedQuery};
+use sources::{RecordSource, Source};
 use std::fmt;
 
 // An answer that does not hold.
@@ -17,6 +25,8 @@ pub(crate) struct Wrong;
 pub(crate) struct Found(Option<(i64, i64)>);
 
 impl fmt::Display for Found {
+    ghost output = { λ found. Some (shown found.0) };
+
     fn fmt<W: fmt::Write>(&self, f: &mut fmt::Formatter<W>) -> fmt::Result {
         match self.0 {
             Some((first, second)) => write!(f, "{first};{second}"),
@@ -26,13 +36,24 @@ impl fmt::Display for Found {
 }
 
 impl fmt::Display for Wrong {
+    ghost output = { λ _. Some (codes "wrong") };
+
     fn fmt<W: fmt::Write>(&self, f: &mut fmt::Formatter<W>) -> fmt::Result {
         write!(f, "wrong")
     }
 }
 
+// What is found prints as its words, and so does an answer that does not hold.
+pub(crate) fn displays_are_words()
+    ensures found { (f : Found) → ⟦<Found as fmt::Display>⟧.output f ≡ Some (shown f.0) }
+    ensures wrong { (w : Wrong) → ⟦<Wrong as fmt::Display>⟧.output w ≡ Some (codes "wrong") }
+{}
+
 // Whether an answer names a journey that is judged to be what the answer says, and tells the reads that are due.
-fn holds<M: Measure>(day: &Day, query: CheckedQuery, answer: Answer, steps: &[usize]) -> bool {
+fn holds<M: Measure>(day: &Day, query: CheckedQuery, answer: Answer, steps: &[usize]) -> bool
+    ensures { let es = day.now.events.items in let p = in_force day.now.marks.items in
+        Decides result (Holds M.ops es p query.query answer steps.now) }
+{
     let judged = judge::<M>(&day.events, &day.marks, query.query(), answer.named(steps));
     judged == Some(answer.verdict)
         && answer.steps <= steps.len()
@@ -40,16 +61,25 @@ fn holds<M: Measure>(day: &Day, query: CheckedQuery, answer: Answer, steps: &[us
         && is_nonsense_behind(steps, answer.steps)
 }
 
-// Searches a day's source under a measure, in tables that are full of rubbish.
+// Searches a day's source under a measure, in tables that are full of rubbish. Of a source of the
+// day's own events no answer is wrong unless a table is too short.
 pub(crate) fn best<M: Measure>(
     day: &Day,
     source: &mut RecordSource,
     query: CheckedQuery,
     tables: &mut HeapTables<M::Label>,
-) -> Result<Found, Wrong> {
+) -> Result<Found, Wrong>
+    ensures best { let es = day.now.events.items in let p = in_force day.now.marks.items in
+        let rules = rules_for es tables.old in
+        ⟦<RecordSource as Source>⟧.events source.old ≡ es →
+        MatchResult result
+        (λ found. Kept rules × IsBest M.ops es p query.query found.0)
+        (λ _. (fault : Fault) × (first_broken rules ≡ Some fault)) }
+    ensures source { let events = ⟦<RecordSource as Source>⟧.events in
+        events source.new ≡ events source.old }
+{
     tables.steps.fill(NONSENSE);
-    let found = search::<RecordSource, M>(source, &day.marks, query, &mut tables.lend());
-    match found {
+    match tables.search::<RecordSource, M>(source, &day.marks, query) {
         Ok(Some(answer)) if holds::<M>(day, query, answer, &tables.steps) => {
             Ok(Found(Some(answer.verdict.score)))
         }

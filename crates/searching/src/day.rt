@@ -1,4 +1,8 @@
 // What is read of a day, and the source of its events.
+ghost use Rattle.std.specs.Prelude.{◌≡◌, length, nat_le, take_while};
+ghost use Rattle.records.specs.Events.{time_of};
+ghost use Rattle.search.specs.Searches.{reads_of};
+
 use blocks::{Load, RECORD_BYTES};
 use faults::Fault;
 use records::{Event, write};
@@ -6,14 +10,23 @@ use scripts::Day;
 use sources::RecordSource;
 use std::alloc::{AllocError, Global};
 
-// How many events are read for a query with this close: up to the first later one, else all.
-pub(crate) fn reads(day: &Day, close: u32) -> usize {
-    let in_time = day
-        .events
+// How many events, from the first on, come no later than this.
+fn in_time(events: &[Event], close: u32) -> usize
+    ensures { result ≡ length (take_while (λ event. nat_le (time_of event) close) events.now) }
+{
+    events
         .iter()
         .take_while(|event| event.time() <= close)
-        .count();
-    in_time.saturating_add(1).min(day.events.len())
+        .count()
+}
+
+// How many events are read for a query with this close: up to the first later one, else all.
+pub(crate) fn reads(day: &Day, close: u32) -> usize
+    ensures { result ≡ reads_of day.now.events.items close }
+{
+    in_time(&day.events, close)
+        .saturating_add(1)
+        .min(day.events.len())
 }
 
 // Loads the records of the events into memory, and tells how many there are. The program `worked_day`, which shows the contract, and the

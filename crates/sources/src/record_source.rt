@@ -42,8 +42,9 @@ fn table_of(block: &Block) -> [Event; MOST_EVENTS]
 impl RecordSource {
     // Opens any bytes as a block of events: a source of its events at the first one, or the block's first fault.
     pub fn open(bytes: &[u8]) -> Result<RecordSource, Fault>
-        ensures value { result_map_both (λ s. filled s.table s.count) (λ f. f) result ≡ opening bytes.now }
-        ensures start { IfOk result (λ s. s.place ≡ 0) }
+        ensures value { let events = ⟦<RecordSource as Source>⟧.events in
+            result_map_both events (λ f. f) result ≡ opening bytes.now }
+        ensures start { IfOk result (λ s. ⟦<RecordSource as Source>⟧.place s ≡ 0) }
     {
         let block = Block::open(bytes)?;
         Ok(RecordSource {

@@ -4,7 +4,7 @@ use Rattle.std.proofs.ByRecursion.{all-has, All-weaker, has_append_left, has_pus
 use Rattle.std.proofs.lemmas.List.{get_or-set_other, get_or-set_same, length-set}
 use Rattle.std.proofs.lemmas.List.Sorted.{IsPermutation-sym}
 use Rattle.std.proofs.lemmas.Bool.{both_ways, cases_eq, cases_lt, lt-ltb}
-use Rattle.std.specs.List.{ContainsAt as Has}
+use Rattle.std.specs.List.{ContainsAt}
 use Rattle.std.proofs.lemmas.Option.{none-some, same_Some}
 use Rattle.measures.specs.Measures.{Laws, Ops}
 use Rattle.queue.specs.Order.{Least}
@@ -29,7 +29,7 @@ pub least_later : (minute : ℕ) (x : Arrival) (xs : List Arrival) → minute < 
 least_later minute x xs h l =
     All-weaker (λ y. sooner y x ≡ false) (λ y. minute < y.minute) (λ y n. omega (arith, not_earlier y x n)) xs l.none_before
 
-pub least_earlier : (minute : ℕ) (x y : Arrival) (xs : List Arrival) → y.minute ≤ minute → Least sooner x xs → Has xs y → x.minute ≤ minute
+pub least_earlier : (minute : ℕ) (x y : Arrival) (xs : List Arrival) → y.minute ≤ minute → Least sooner x xs → ContainsAt xs y → x.minute ≤ minute
 least_earlier minute x y xs h l i = omega (arith, not_earlier y x (all-has (λ z. sooner z x ≡ false) xs y l.none_before i))
 
 pub due_taken : (minute : ℕ) (queue : List Arrival) (used : ℕ) (x : Arrival) → Seen sooner queue used x → x.minute ≤ minute → (r : Option Arrival) (queue' : List Arrival) (used' : ℕ) → Taking sooner queue used r queue' used' → Due minute queue used r queue' used'
@@ -42,15 +42,15 @@ bit_small true = omega arith
 bit_small false = omega arith
 
 -- one element more at the front
-has_front : {X : Type 0} (x : X) (xs : List X) → Has (x ∷ xs) x
-has_front x xs = (0, omega arith, λ d. refl)
+contains_front : {X : Type 0} (x : X) (xs : List X) → ContainsAt (x ∷ xs) x
+contains_front x xs = (0, omega arith, λ d. refl)
 
-has_behind : {X : Type 0} (x y : X) (xs : List X) → Has xs y → Has (x ∷ xs) y
-has_behind x y xs h = (suc h.0, omega (arith, h.1), h.2)
+contains_behind : {X : Type 0} (x y : X) (xs : List X) → ContainsAt xs y → ContainsAt (x ∷ xs) y
+contains_behind x y xs h = (suc h.0, omega (arith, h.1), h.2)
 
-has_cases : {X : Type 0} (x y : X) (xs : List X) → Has (x ∷ xs) y → (x ≡ y) ⊎ Has xs y
-has_cases x y xs (zero, l, e) = inl (e y)
-has_cases x y xs (suc k, l, e) = inr (k, omega arith, e)
+contains_cases : {X : Type 0} (x y : X) (xs : List X) → ContainsAt (x ∷ xs) y → (x ≡ y) ⊎ ContainsAt xs y
+contains_cases x y xs (zero, l, e) = inl (e y)
+contains_cases x y xs (suc k, l, e) = inr (k, omega arith, e)
 
 -- a slot tells stop and call state
 pub slot_stop : (s t : ℕ) (b c : Bool) → slot_of s b ≡ slot_of t c → (s ≡ t) × (b ≡ c)
@@ -104,11 +104,11 @@ module _ {L : Type 0} (m : Ops L) (laws : Laws m) (tables : Contents L) (k t min
 
 -- one due arrival taken from the queue and brought to the board
 module _ {L : Type 0} (m : Ops L) (laws : Laws m) (tables : Contents L) (k t minute : ℕ) (accounts : Accounts m tables k t) (later : t ≤ minute) (a : Arrival) (queue' : List Arrival) (used' : ℕ) (taken : Taken sooner tables.queue tables.used a queue' used') (due : a.minute ≤ minute) where
-  was_held : (b : Arrival) → Has (held queue' used') b → Has (awaited tables) b
-  was_held b h = has_shuffled (a ∷ held queue' used') (awaited tables) b (IsPermutation-sym _ _ taken.bag) (has_behind a b (held queue' used') h)
+  was_held : (b : Arrival) → ContainsAt (held queue' used') b → ContainsAt (awaited tables) b
+  was_held b h = has_shuffled (a ∷ held queue' used') (awaited tables) b (IsPermutation-sym _ _ taken.bag) (contains_behind a b (held queue' used') h)
 
   its_entry : Queued m tables.log k a
-  its_entry = accounts.queued a (has_shuffled (a ∷ held queue' used') (awaited tables) a (IsPermutation-sym _ _ taken.bag) (has_front a (held queue' used')))
+  its_entry = accounts.queued a (has_shuffled (a ∷ held queue' used') (awaited tables) a (IsPermutation-sym _ _ taken.bag) (contains_front a (held queue' used')))
 
 module _ {L : Type 0} (m : Ops L) (laws : Laws m) (tables : Contents L) (k t minute : ℕ) (accounts : Accounts m tables k t) (later : t ≤ minute) (a : Arrival) (queue' : List Arrival) (used' : ℕ) (taken : Taken sooner tables.queue tables.used a queue' used') (due : a.minute ≤ minute) (entry : Entry L) (logged_entry : logged tables.log a.stage.event a.stage.called ≡ Some entry) (ends : entry.end ≡ a.minute) (before : a.stage.event < k) where
   abbrev at : ℕ
@@ -192,7 +192,7 @@ module _ {L : Type 0} (m : Ops L) (laws : Laws m) (tables : Contents L) (k t min
             ⊎_elim
             (λ i.
             ⊎_elim (λ z. inr (own_over e j c h z)) (λ b. inl b)
-            (has_cases a _ (held queue' used') (has_shuffled (awaited tables) (a ∷ held queue' used') _ taken.bag i)))
+            (contains_cases a _ (held queue' used') (has_shuffled (awaited tables) (a ∷ held queue' used') _ taken.bag i)))
             (λ o. inr (still_over e c o))
             (accounts.covered j c e h);
       }
@@ -265,7 +265,7 @@ module _ {L : Type 0} (m : Ops L) (tables : Contents L) (k t : ℕ) (accounts : 
             ⊎_elim
             (λ z.
             inl
-            (subst (Has (held queue' used')) (same_arrival x j b z)
+            (subst (ContainsAt (held queue' used')) (same_arrival x j b z)
             (has_shuffled (awaited tables ++ arrival ∷ []) (held queue' used') arrival added.bag (has_push (awaited tables) arrival))))
             (λ o.
             ⊎_elim

@@ -8,7 +8,7 @@
 --                          stop and call state; near: entries are for events before k; queued, standing: what queue
 --                          and board hold are labels of entries; covered: every entry is awaited still, or overtaken
 use Rattle.std.specs.Prelude.{◌≡◌, ℕ, ◌<◌, ◌≤◌, Bool, true, ◌⊎◌, List, length, Some, None, Option}
-use Rattle.std.specs.List.{ContainsAt as Has, AllByRecursion}
+use Rattle.std.specs.List.{ContainsAt, AllByRecursion}
 use Rattle.measures.specs.Measures.{Ops}
 use Rattle.queue.specs.Order.{Heaped}
 use Rattle.queue.specs.Queue.{Taken, held}
@@ -44,6 +44,9 @@ pub record Accounts {L : Type 0} (m : Ops L) (w : Contents L) (k t : ℕ) : Type
   pub heaped : Heaped sooner (awaited w)
   pub wide : 512 ≤ length w.board
   pub near : (j : ℕ) (c : Bool) (e : Entry L) → logged w.log j c ≡ Some e → (j < k) × (e.stop < 256)
-  pub queued : (a : Arrival) → Has (awaited w) a → Queued m w.log k a
+  pub queued : (a : Arrival) → ContainsAt (awaited w) a → Queued m w.log k a
   pub standing : (s : ℕ) (c : Bool) (x : Standing L) → s < 256 → stands w.board s c ≡ Some x → StandingThere m w.log k t s c x
-  pub covered : (j : ℕ) (c : Bool) (e : Entry L) → logged w.log j c ≡ Some e → Has (awaited w) (record { minute = e.end; stage = record { event = j; called = c } }) ⊎ Overtaken m w.log w.board t e c
+  pub covered : (j : ℕ) (c : Bool) (e : Entry L)
+      → logged w.log j c ≡ Some e
+      → ContainsAt (awaited w) (record { minute = e.end; stage = record { event = j; called = c } })
+      ⊎ Overtaken m w.log w.board t e c

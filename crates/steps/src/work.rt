@@ -174,4 +174,11 @@ impl<L: Copy> Work<'_, L> {
         self.take_event::<M>(query, number, event, in_force);
         Ok(())
     }
+
+    /// Ends the loan: each memory goes back to its lender with what the tables held.
+    pub fn give_back(self)
+        ensures log { self.exit.0.now ≡ self.entry.log.now }
+        ensures board { self.exit.1.0.now ≡ self.entry.board.now }
+        ensures queue { self.exit.1.1.0.now ≡ self.entry.queue.now }
+    {}
 }

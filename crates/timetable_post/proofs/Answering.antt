@@ -11,9 +11,10 @@ use Rattle.measures.specs.Measures.{Ops, ◌≼◌}
 use Rattle.journeys.specs.declared.query.Query.{Query}
 use Rattle.journeys.specs.Best.{NothingFits}
 use Rattle.journeys.specs.Journeys.{Fits}
+use Rattle.journeys.specs.Queries.{query_rules}
 use Rattle.journeys.specs.Verdicts.{in_force}
 use Rattle.search.specs.declared.answer.Answer.{Answer}
-use Rattle.search.specs.Queries.{query_rules, table_rules}
+use Rattle.search.specs.Queries.{table_rules}
 use Rattle.search.specs.Searches.{Found, Named, named, reads_of}
 use Rattle.timetable_post.specs.Calls.{QueryRight, queried}
 use Rattle.timetable_post.specs.Queries.{Answered, Handed, Queried, asking, checks_of, lengths_of}

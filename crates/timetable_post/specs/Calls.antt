@@ -28,9 +28,10 @@ use Rattle.measures.specs.Measures.{Score, ◌≼◌}
 use Rattle.journeys.specs.declared.query.Query.{Query}
 use Rattle.journeys.specs.Best.{NothingFits}
 use Rattle.journeys.specs.Journeys.{Fits}
+use Rattle.journeys.specs.Queries.{query_rules}
 use Rattle.journeys.specs.Verdicts.{in_force}
 use Rattle.search.specs.declared.answer.Answer.{Answer}
-use Rattle.search.specs.Queries.{Lengths, query_rules, table_rules}
+use Rattle.search.specs.Queries.{Lengths, table_rules}
 use Rattle.search.specs.Searches.{named}
 
 pub data Notice : Type 0 where

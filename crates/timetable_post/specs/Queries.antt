@@ -11,7 +11,7 @@
 --     Queried .. b r a     answered: as above; marks: these are as found; refused: where a check is not passed
 --                          everything is as found; read: else the source's list is the same, and its place is how
 --                          many events were read; does, day: what the depot's day says of it
-use Rattle.std.specs.Prelude.{◌≡◌, ℕ, Bool, ◌⊎◌, List, length, Some, Ok, Err, Option, Result}
+use Rattle.std.specs.Prelude.{◌≡◌, ℕ, Bool, ◌⊎◌, List, Some, Ok, Err, Option, Result}
 use Rattle.faults.specs.declared.Fault.{Fault}
 use Rattle.faults.specs.declared.Fault.TheVariants.{NoJourney}
 use Rattle.faults.specs.Rules.{Kept, Rule, first_broken}
@@ -26,7 +26,7 @@ use Rattle.steps.specs.declared.board.Standing.{Standing}
 use Rattle.steps.specs.declared.entry.Entry.{Entry}
 use Rattle.search.specs.declared.answer.Answer.{Answer}
 use Rattle.search.specs.declared.tables.Tables.{Tables}
-use Rattle.search.specs.Queries.{Lengths}
+use Rattle.search.specs.Queries.{Lengths, lengths_in}
 use Rattle.search.specs.Searches.{Named, reads_of}
 use Rattle.timetable_post.specs.Calls.{Asking, Does, checks, queried}
 use Rattle.timetable_post.specs.Days.{CarriesOn}
@@ -44,7 +44,7 @@ handed source marks t =
     record { source = source; marks = marks; log = t.log.now; board = t.board.now; queue = t.queue.now; steps = t.steps.now }
 
 abbrev pub lengths_of : {S X Y Z : Type 0} → Handed S X Y Z → Lengths
-lengths_of b = record { log = length b.log; board = length b.board; queue = length b.queue; steps = length b.steps }
+lengths_of b = lengths_in b.log b.board b.queue b.steps
 
 abbrev pub asking : {L S X Y Z : Type 0} → Ops L → List Event → Query → Handed S X Y Z → Asking
 asking m es q b = record { query = q; tables = lengths_of b; score = score_of m es }

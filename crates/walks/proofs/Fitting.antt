@@ -12,9 +12,10 @@ use Rattle.journeys.specs.declared.query.Query.{Query}
 use Rattle.journeys.specs.Formulas.{along, label_of, through}
 use Rattle.journeys.specs.Journeys.{Chained, Fits, Link, beginning, end_of, final, final_from, first, leaves, minutes, numbered, one_if_opening, one_if_ride, openings, reaches, ready, rides}
 use Rattle.journeys.proofs.Spans.{known_within, within_long, within_ride}
-use Rattle.journeys.proofs.Temporal.{one_kind}
+use Rattle.journeys.proofs.Chains.{lower_rank, rank}
+use Rattle.journeys.proofs.Temporal.{kinds_sum}
 use Rattle.walks.specs.Walks.{Boards, Exchange, FitsBy, Known, Rightly, Starts, Traveller, Walk, WalksFit, begins, goes_on, is_opening, moved, outset}
-use Rattle.walks.proofs.Snocs.{along_snoc, chained_snoc, final_snoc, first_snoc, lower_rank, rank, total_snoc}
+use Rattle.walks.proofs.Snocs.{along_snoc, chained_snoc, final_snoc, first_snoc, total_snoc}
 
 abbrev pub count : Bool → ℕ
 count b = cond b 1 0
@@ -117,10 +118,6 @@ module _ {L : Type 0} (m : Ops L) (es : List Event) (p : ℕ → Bool) (q : Quer
   walk_facts (goes_on {t} {js} w i k b) = on_facts t js i (walk_facts w) k b
 
 -- rides and openings are all there is
-kinds_sum : (es : List Event) (js : List ℕ) → rides es js + openings es js ≡ length js
-kinds_sum es [] = refl
-kinds_sum es (j ∷ js) = omega (arith, one_kind (numbered es j), kinds_sum es js)
-
 opening_stays : (e : Event) → one_if_ride e ≡ 0 → leaves e ≡ reaches e
 opening_stays (Opening s t) h = refl
 opening_stays (Ride a b t d) h = absurd (omega arith)

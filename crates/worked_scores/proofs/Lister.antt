@@ -4,12 +4,14 @@ use lib.Signed.{lt_z}
 use Rattle.std.proofs.lemmas.Int.{ints}
 use Rattle.std.proofs.lemmas.Bool.{and_from, and_parts, cases_order, le-leb, leb-true, both_ways, cases_Bool, not-true, or_cases}
 use Rattle.std.proofs.lemmas.Bool.Decides.{Decides-and, Decides-eqb, Decides-ltb}
+use Rattle.std.proofs.lemmas.Slice.Eq.{bytes_eq-Decides}
 use Rattle.std.specs.List.{AllByRecursion}
+use Rattle.std.specs.Str.{bytes_eq}
 use Rattle.records.specs.declared.event.Event.{Event}
 use Rattle.records.specs.Events.{time_of}
 use Rattle.measures.specs.Measures.{Ops, Score, ◌≼◌}
 use Rattle.journeys.specs.declared.query.Query.{Query}
-use Rattle.journeys.specs.Best.{Best, Least, NothingFits}
+use Rattle.journeys.specs.Best.{Best, Least, NothingFits, Only}
 use Rattle.journeys.specs.Formulas.{score_of}
 use Rattle.journeys.specs.Journeys.{Before, Chained, Fits, Link, beginning, ending, final, first, leaves, numbered, openings, reaches, ready, rides}
 
@@ -183,21 +185,28 @@ module _ (es : List Event) (p : ℕ → Bool) (q : Query) where
       )
 
   -- what is tested of every rising list is tested of every list that fits
-  fits_listed : (t : List ℕ → Bool) → every t (risings 0 (length es)) ≡ true → (js : List ℕ) → Fits es p q js → t js ≡ true
-  fits_listed t h js f =
-      risings_complete t 0 (length es) h js f.journey.rising (all_from _ (λ j. 0 ≤ j) (λ j k. omega arith) js f.journey.known)
-      (all_from (λ j. (j < length es) × (p j ≡ true)) (λ j. j < 0 + length es) (λ j k. omega (arith, k.0)) js f.journey.known)
+  abbrev every_fit : (List ℕ → Bool) → Bool
+  every_fit t = every (λ js. not (fits_b js) || t js) (risings 0 (length es))
 
-  pub none_listed : every (λ js. not (fits_b js)) (risings 0 (length es)) ≡ true → NothingFits es p q
-  none_listed h js f = both_ways _ (not-true _ (fits_listed (λ ks. not (fits_b ks)) h js f)) ((decides_fits js).1 f)
+  fits_listed : (t : List ℕ → Bool) → every_fit t ≡ true → (js : List ℕ) → Fits es p q js → t js ≡ true
+  fits_listed t h js f =
+      ⊎_elim
+      (λ n. absurd (both_ways _ (not-true _ n) ((decides_fits js).1 f)))
+      (λ y. y)
+      (or_cases _ _
+      (risings_complete (λ ks. not (fits_b ks) || t ks) 0 (length es) h js f.journey.rising
+      (all_from _ (λ j. 0 ≤ j) (λ j k. omega arith) js f.journey.known)
+      (all_from (λ j. (j < length es) × (p j ≡ true)) (λ j. j < 0 + length es) (λ j k. omega (arith, k.0)) js f.journey.known)))
+
+  pub none_listed : every_fit (λ js. false) ≡ true → NothingFits es p q
+  none_listed h js f = both_ways _ refl (fits_listed (λ ks. false) h js f)
+
+  pub only_listed : (js : List ℕ) → fits_b js ≡ true → every_fit (λ ks. bytes_eq ks js) ≡ true → Only es p q js
+  only_listed js t h = ((decides_fits js).0 t, λ ks f. (bytes_eq-Decides ks js).0 (fits_listed (λ is. bytes_eq is js) h ks f))
 
   module _ {L : Type 0} (m : Ops L) (s : Score) where
-    pub least_listed : every (λ js. not (fits_b js) || not_above s (score_of m es js)) (risings 0 (length es)) ≡ true → Least m es p q s
-    least_listed h js f =
-        ⊎_elim
-        (λ n. absurd (both_ways _ (not-true _ n) ((decides_fits js).1 f)))
-        (not_above_lem s (score_of m es js))
-        (or_cases _ _ (fits_listed (λ ks. not (fits_b ks) || not_above s (score_of m es ks)) h js f))
+    least_listed : every_fit (λ js. not_above s (score_of m es js)) ≡ true → Least m es p q s
+    least_listed h js f = not_above_lem s (score_of m es js) (fits_listed (λ ks. not_above s (score_of m es ks)) h js f)
 
-    pub best_listed : (js : List ℕ) → fits_b js ≡ true → score_of m es js ≡ s → every (λ ks. not (fits_b ks) || not_above s (score_of m es ks)) (risings 0 (length es)) ≡ true → Best m es p q s
+    pub best_listed : (js : List ℕ) → fits_b js ≡ true → score_of m es js ≡ s → every_fit (λ ks. not_above s (score_of m es ks)) ≡ true → Best m es p q s
     best_listed js t e h = ((js, (decides_fits js).0 t, e), least_listed h)

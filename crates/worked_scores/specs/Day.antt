@@ -2,17 +2,18 @@
 --     day              its seven events
 --     all              every event is in force
 --     asking o c v     from stop 1 to stop 3, within the minutes o to c, with a call if v is true
---     DayScores        with all in force: the best scores within 100 to 200, under e, l, f, s, n and c,
---                      and with a call under n and s; 2, 4 fits within 110 to 155 and is best there under
---                      e; and neither within 111 to 155 nor within 110 to 154 does any journey fit
+--     DayScores        with all in force: the best scores within 100 to 200, under e, l, f, s, n and
+--                      c, and with a call under n and s; within 110 to 155 the best score under e,
+--                      and 2, 4 is the only journey that fits; within 111 to 155 and within 110 to
+--                      154 none fits; and the queries of these three windows pass
 use Rattle.std.specs.Prelude.{ℕ, Bool, true, false, List, [], ◌∷◌, pos}
+use Rattle.faults.specs.Rules.{Kept}
 use Rattle.records.specs.declared.event.Event.{Event}
 use Rattle.records.specs.declared.event.Event.TheVariants.{Opening, Ride}
 use Rattle.measures.specs.Six.{earliest, fastest, fewest_rides, latest, least_riding, least_waiting}
 use Rattle.journeys.specs.declared.query.Query.{Query}
-use Rattle.journeys.specs.Best.{Best, Least, NothingFits}
-use Rattle.journeys.specs.Formulas.{score_of}
-use Rattle.journeys.specs.Journeys.{Fits}
+use Rattle.journeys.specs.Best.{Best, NothingFits, Only}
+use Rattle.journeys.specs.Queries.{query_rules}
 
 abbrev pub day : List Event
 day =
@@ -41,7 +42,10 @@ DayScores =
     × Best least_waiting day all (asking 100 200 false) (pos 0, pos 155)
     × Best fewest_rides day all (asking 100 200 true) (pos 1, pos 170)
     × Best least_riding day all (asking 100 200 true) (pos 25, pos 158)
-    × Fits day all (asking 110 155 false) (2 ∷ 4 ∷ [])
-    × Least earliest day all (asking 110 155 false) (score_of earliest day (2 ∷ 4 ∷ []))
+    × Best earliest day all (asking 110 155 false) (pos 155, pos 999889)
+    × Only day all (asking 110 155 false) (2 ∷ 4 ∷ [])
     × NothingFits day all (asking 111 155 false)
     × NothingFits day all (asking 110 154 false)
+    × Kept (query_rules (asking 110 155 false))
+    × Kept (query_rules (asking 111 155 false))
+    × Kept (query_rules (asking 110 154 false))

@@ -49,7 +49,7 @@ pub fn worked_events() -> [Event; 7]
     ]
 }
 
-// The best scores of the worked day, by going through every rising list of its numbers.
+// The best scores of the worked day, and what fits in narrower windows.
 pub fn worked_scores()
     ensures { DayScores }
 {}

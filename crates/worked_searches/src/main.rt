@@ -8,7 +8,7 @@ use measures::{
     Trip,
 };
 use records::write;
-use search::{Answer, CheckedQuery, search};
+use search::{Answer, CheckedQuery};
 use sources::{RecordSource, Source};
 use std::io;
 use worked_scores::{WORKED_QUERY, WORKED_QUERY_WITH_CALL, worked_events};
@@ -40,7 +40,7 @@ fn print_found<M: Measure>(
         Ok(checked) => checked,
         Err(fault) => return println!(rt; "{fault}"),
     };
-    let found = search::<RecordSource, M>(source, &[], checked, &mut tables.lend());
+    let found = tables.search::<RecordSource, M>(source, &[], checked);
     print!(rt; "{title} found: ")?;
     match found {
         Ok(answer) => print_answer(rt, answer, &tables.steps),

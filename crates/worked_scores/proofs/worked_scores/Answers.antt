@@ -1,8 +1,7 @@
 use Rattle.std.proofs.Common.{true, false, [], ◌∷◌, pos, refl}
 use Rattle.measures.specs.Six.{earliest, fastest, fewest_rides, latest, least_riding, least_waiting}
-use Rattle.journeys.specs.Formulas.{score_of}
 use Rattle.worked_scores.specs.Day.{all, asking, day}
-use Rattle.worked_scores.proofs.Lister.{best_listed, decides_fits, least_listed, none_listed}
+use Rattle.worked_scores.proofs.Lister.{best_listed, none_listed, only_listed}
 use Rattle.worked_scores.proofs.worked_scores.Goals as goal
 
 pub returns : goal.returns
@@ -18,8 +17,11 @@ returns c =
       best_listed day all q least_waiting (pos 0, pos 155) (2 ∷ 4 ∷ []) refl refl refl,
       best_listed day all v fewest_rides (pos 1, pos 170) (1 ∷ 6 ∷ []) refl refl refl,
       best_listed day all v least_riding (pos 25, pos 158) (2 ∷ 3 ∷ 5 ∷ []) refl refl refl,
-      (decides_fits day all near (2 ∷ 4 ∷ [])).0 refl,
-      least_listed day all near earliest (score_of earliest day (2 ∷ 4 ∷ [])) refl,
+      best_listed day all near earliest (pos 155, pos 999889) (2 ∷ 4 ∷ []) refl refl refl,
+      only_listed day all near (2 ∷ 4 ∷ []) refl refl,
       none_listed day all (asking 111 155 false) refl,
       none_listed day all (asking 110 154 false) refl,
+      refl,
+      refl,
+      refl,
     )

@@ -1,6 +1,5 @@
 use Rattle.std.proofs.Common.{refl, ap, ◌∙◌, ◌*◌, arith}
 use Rattle.std.proofs.lemmas.List.{length-take-le}
-use Rattle.byte_calls.specs.Conversations.{list_of, place_of}
 use Rattle.byte_calls.proofs.conversation.converse_over.Goals as goal
 
 pub returns-clause-converses : goal.returns-clause-converses
@@ -12,8 +11,8 @@ returns-clause-converses c =
         _,
         _,
         record {
-          list = ap list_of source;
-          start = ap place_of source ∙ c.requires;
+          list = cc;
+          start = cc;
           day = c.put_up.ensures.day;
           log = length-take-le _ _ (omega (arith, c.args.source.listed.few, c.size-slots.ensures)) ∙ ap (λ n. n * 2) c.size-slots.ensures;
           board = refl;
@@ -22,7 +21,7 @@ returns-clause-converses c =
           queue = refl;
           steps = refl;
         },
-        said.held,
+        said.whole,
       ),
       said.printed,
     )

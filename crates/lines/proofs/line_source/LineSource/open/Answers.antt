@@ -9,8 +9,8 @@ use Rattle.lines.proofs.line_source.LineSource.open.Goals as goal
 pub returns-in_err-table-clause-only : goal.returns-in_err-table-clause-only
 returns-in_err-table-clause-only c = only_one
 
-pub returns-clause-value : goal.returns-clause-value
-returns-clause-value c =
+pub returns-clause-opened : goal.returns-clause-opened
+returns-clause-opened c =
     let ls = lines_of c.args.bytes.now in
     let k = kept_from_ok _ _ _ (sym c.in_ok-table.ensures) in
     let v : table ls ≡ c.in_ok-table.table.lines = value_from_ok _ _ _ (sym c.in_ok-table.ensures) in

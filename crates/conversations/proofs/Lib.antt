@@ -1,0 +1,4 @@
+pub mod LinesRead
+pub mod Progress
+pub mod Serving
+pub mod Writes

@@ -1,0 +1,18 @@
+use Rattle.std.proofs.Common.{◌∙◌}
+use Rattle.scripts.proofs.Words.{exit, told_none, told_on}
+use Rattle.scripts.proofs.line.opening.Goals as goal
+
+pub returns-in_err-next : goal.returns-in_err-next
+returns-in_err-next c ws l =
+    exit _ _ c.from_residual.ensures.1 ∙ told_none 8 _ ws _ (c.in_err-next.ensures ws l).0
+
+pub returns-in_err-next-2 : goal.returns-in_err-next-2
+returns-in_err-next-2 c ws l =
+    let n0 = c.in_ok-next.ensures ws l in
+    exit _ _ c.from_residual-in_err-next-2.ensures.1 ∙ told_none 32 _ _ _ (c.in_err-next-2.ensures _ n0.1).0 ∙ told_on 8 _ ws _ n0.0
+
+pub returns : goal.returns
+returns c ws l =
+    let n0 = c.in_ok-next.ensures ws l in
+    let n1 = c.in_ok-next-2.ensures _ n0.1 in
+    told_on 32 _ _ _ n1.0 ∙ told_on 8 _ ws _ n0.0

@@ -1,0 +1,2 @@
+pub mod InTime
+mod Held
