@@ -93,7 +93,7 @@ def open_block(data):
 # Lines and commands
 
 def lines_of(data):
-    """The lines of an input. Byte 10 ends a line; a last line may do without."""
+    """What an input has between its newlines, and behind the last one, unless nothing is there."""
     lines = data.split(b'\n')
     return lines if lines[-1] else lines[:-1]
 

@@ -84,8 +84,8 @@ def weight(letter, event):
 def score(letter, day, steps):
     """The score of a journey."""
     begin, end, riding, rides = told(day, steps)
-    return {'e': (end, -begin), 'l': (-begin, end), 'f': (end - begin, riding), 's': (riding, end), 'n': (rides, end),
-            'c': (end - begin - riding, end)}[letter]
+    return {'c': (end - begin - riding, end), 'e': (end, -begin), 'f': (end - begin, riding), 'l': (-begin, end), 'n': (rides, end),
+            's': (riding, end)}[letter]
 
 
 def told(day, steps):

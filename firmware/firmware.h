@@ -15,7 +15,7 @@ ptrdiff_t firmware_answer_lines(const uint8_t *day, size_t day_length, const uin
 
 /*
  * Loads records of sixteen bytes into memory, from its front on. Returns how many there are; or, at the first one that is refused, its
- * fault in one number, and then the memory is as found. Needs about 17 KiB of stack.
+ * fault in one number, and then the memory has its old bytes again. Needs about 17 KiB of stack.
  */
 uint64_t firmware_load_records(uint8_t *memory, size_t memory_length, const uint8_t *records, size_t records_length);
 

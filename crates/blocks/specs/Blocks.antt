@@ -1,5 +1,5 @@
 -- A block of bytes as a list of events. Assumes nothing.
---     follows o e      e may stand behind the event o: there is none, or they are in order
+--     follows o e      e may stand right after o: o is none, or an event with which it is in order
 --     rules_after o i r  the rules that r obeys as record i behind the event o: those of a record by
 --                      itself, then that it follows o
 --     last_event rs    the event of the last of the records rs, none where there is none

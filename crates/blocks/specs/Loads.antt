@@ -2,13 +2,13 @@
 --     placed m i r         m with r written over it from i on
 --     event_before m n     the event of the last of the first n records of m
 --     add_rules m n r      the rules for adding r to memory m that holds n records, in the order in
---                          which they are tested: r is a record long, there is room for it, it obeys
---                          the rules of the record behind those held
---     accepted a r         r where the answer a accepts it, else nothing
---     Filling o rs m n     memory handed over as o has come to m, with n records held, by accepting
---                          the records rs, in this order
---     Filled o rs m n      then n is their number, they are the front of m, that front opens as a
---                          block without fault and with exactly their events, and behind it m is as o
+--                          which they are tested: r has 16 bytes; n is below 1,024 and m has 16 bytes
+--                          left behind the n records; r obeys the rules of a record after those
+--     accepted a r         the list of r alone where the answer a is Ok, else the empty list
+--     Filling o rs m n     memory that was o at first is now m and holds n records: rs, added one after
+--                          another, none of which broke a rule
+--     Filled o rs m n      n is the number of the records rs, they are the front of m, that front opens as
+--                          a block without fault and with exactly their events, and behind it m is as o
 use Rattle.std.specs.Prelude.{◌≡◌, ℕ, ◌+◌, ◌*◌, cond, ◌&&◌, List, [], ◌∷◌, ◌++◌, map, length, take, drop, is_ok, Ok, Option, Result, ◌==◌, nat_le}
 use Rattle.std.specs.List.{flat_map}
 use Rattle.faults.specs.declared.Fault.{Fault}

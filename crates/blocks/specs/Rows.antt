@@ -2,7 +2,7 @@
 --     count bs         how many whole records the bytes have
 --     records_of bs    these records, in their order
 --     record_at rs i   record i of the records rs, empty where there is none
---     size_rules most bs   there are whole records only, and at most so many
+--     size_rules most bs   the rules of the size of bs: whole records only, and at most `most` of them
 use Rattle.std.specs.Prelude.{ℕ, ◌/◌, ◌%◌, List, [], ◌∷◌, length, ◌==◌, nat_le, slice_index_or}
 use Rattle.std.specs.Simd.{first_chunks}
 use Rattle.faults.specs.declared.Fault.TheVariants.{PartialRecord, TooManyRecords}

@@ -10,7 +10,7 @@ use crate::row::RECORD_BYTES;
 use faults::Fault;
 use records::{Event, MOST_EVENTS, fields};
 
-// Handed memory, whose front holds `held` records; the count stands beside it, since the memory is the caller's.
+// The caller's memory, whose front holds `held` records.
 #[derive(Drop)]
 pub struct Load<'a> {
     memory: &'a mut [u8],
@@ -25,7 +25,7 @@ fn last_event(rows: &[[u8; 16]]) -> Option<Event>
 }
 
 impl<'a> Load<'a> {
-    // Begins a load: no record is held, and the memory is as handed over.
+    // Begins a load over the caller's memory, which holds no record yet and is not written to.
     pub fn new(memory: &'a mut [u8]) -> Load<'a>
         ensures same { result.memory.now ≡ memory.old }
         ensures held { result.held ≡ 0 }

@@ -1,12 +1,12 @@
 -- What is said to a text of lines, in memory of a fixed length. Assumes nothing.
--- events and place tell a source's list and place; what a post and its tables are is a desk.
---     Printed p t m        what was printed so far is t: it fits in m and is its front, p bytes long; or there is no p,
---                          and t is longer than m
+-- events and place tell a source's list and place; a desk is what a post and its tables are at a moment.
+--     Printed p t m        the text t is printed to m: it is the front of m, p bytes long; or p is none, and t is longer
+--                          than m
 --     Answering b line p m a p' m'  the line is answered, and its reply's line printed behind what was printed so far
 --     Converses b bs r m a  a conversation over all lines of bs whose text is printed to m, as r tells
---     Says o lines r m     what is said to the lines is printed to m, as r tells
+--     Says o lines r m     what is said to the lines is printed to m, as r tells; o is the answer to opening the day
 --     Delivered most t m r m'  the answer r tells how many bytes were written, t over the front of m, with the rest of m as it
---                          was; none, with m as it was, where t is longer than m or than so many bytes
+--                          was; none, with m as it was, where t is longer than m or than `most` bytes
 --     Answers day lines m r m'  what is said to the lines over the day's bytes is delivered, if it has 65,536 bytes at most
 use Rattle.std.specs.Prelude.{◌≡◌, ℕ, ◌<◌, ◌≤◌, min, List, ◌++◌, length, take, drop, Some, None, Option, Result}
 use Rattle.faults.specs.declared.Fault.{Fault}

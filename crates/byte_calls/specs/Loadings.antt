@@ -1,9 +1,10 @@
 -- Records in a row of bytes, loaded into memory. Assumes nothing.
---     Stopped m bs f m'    the first of the records in bs are held by memory that was handed over as m and has come to m', and the
---                          next one breaks the rule of the fault f; it is the next sixteen bytes, or those that are left where there are fewer
---     Fills m bs r m'      records are added to memory m until one is refused, and it comes to m': the answer r tells how many bs
---                          are, one behind another, and these fill m; or the fault at which it stopped
---     Loads m bs r m'      the same, but that after a fault m' is as m
+--     Stopped m bs f m'    the first records of bs, or none, were added to memory that was m and is now m', and the next one
+--                          breaks the rule of the fault f; it is the next sixteen bytes, or those that are left where there
+--                          are fewer
+--     Fills m bs r m'      memory that was m is now m': the answer r tells how many records bs are, one behind another, and these
+--                          fill it (Filled); or r is the fault at which it stopped
+--     Loads m bs r m'      the same, but that after a fault m' is m
 use Rattle.std.specs.Prelude.{◌≡◌, ℕ, ◌<◌, ◌⊎◌, List, [], ◌++◌, length, Some, Ok, Err, Result}
 use Rattle.std.specs.List.{flat_map}
 use Rattle.faults.specs.declared.Fault.{Fault}

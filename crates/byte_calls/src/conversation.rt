@@ -21,8 +21,8 @@ pub const LONGEST_TEXT: usize = 65_536;
 // How many slots a log and a queue have: two for each event.
 const SLOTS: usize = 2_048;
 
-// The first line of a text, and what stands behind it; none where there is no more line. Byte 10 ends a line; a last line
-// without it is a line too.
+// The first line of a text, without the newline at its end, and the text behind it; none where the text is empty. Where there is
+// no newline, all of the text is the line.
 #[tactic(auto, using(crate::proofs::Lines::line_cut, crate::proofs::Lines::line_last))]
 fn first_line(text: &[u8]) -> Option<(&[u8], &[u8])>
     ensures { MatchOption result (length text.now ≡ 0) (λ parts. FirstLine text.now parts.0.now parts.1.now) }
@@ -37,7 +37,7 @@ fn first_line(text: &[u8]) -> Option<(&[u8], &[u8])>
 }
 
 // Copies bytes behind what a text's front has so far, and tells how many there are then; none where there is no room, or was none
-// before. The text's memory is handed over, so how much of it is in use stands beside it.
+// before. The memory is the caller's, so how much of it is in use is a number of its own.
 fn append(text: &mut [u8], so_far: Option<usize>, bytes: &[u8]) -> Option<usize>
     requires { IfSome so_far (λ n. n ≤ length text.old) }
     ensures printed { (t : List ℕ)
@@ -101,7 +101,8 @@ fn converse<S: Source + Drop>(
     so_far
 }
 
-// Answers lines over a source, by a post that is put up over it and taken down again. No memory is allocated: the tables stand here.
+// Answers lines over a source, by a post that is put up over it and lasts for this call. No memory is allocated: the tables are
+// arrays of this function.
 fn converse_over(source: RecordSource, lines: &[u8], text: &mut [u8]) -> Option<usize>
     requires { ⟦<RecordSource as Source>⟧.place source ≡ 0 }
     ensures converses { let records = ⟦<RecordSource as Source>⟧ in

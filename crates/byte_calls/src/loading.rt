@@ -20,7 +20,7 @@ fn fill(memory: &mut [u8], records: &[u8]) -> Result<usize, Fault>
 const LONGEST_LOAD: usize = 16_384;
 
 // Loads the records that the bytes are into memory, from its front on, and tells how many there are; refuses with the first rule
-// that one of them breaks, and then the memory is as found, from a copy of the part that a load may fill.
+// that one of them breaks, and then the memory has its old bytes again, from a copy of the part that a load may fill.
 pub fn load_records(memory: &mut [u8], records: &[u8]) -> Result<usize, Fault>
     ensures { Loads memory.old records.now result memory.new }
 {

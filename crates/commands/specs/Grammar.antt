@@ -9,8 +9,8 @@
 --     Begins bs        some valid command's text is the bytes and then some rest
 --     OneCommand       a text is the text of one valid command at most
 --     ShortTexts       the text of a valid command has 25 bytes at most
---     Refused bs f     f tells that the bytes spell no command, and how many of them, from the first on,
---                      begin one at most
+--     Refused bs f     the bytes spell no command, and f tells so, with the length of the longest front of
+--                      them that begins one
 --     Answered bs a    the answer a is the command that the bytes spell, or such a fault
 use Rattle.std.specs.Prelude.{◌≡◌, ℕ, ◌≤◌, Bool, true, false, List, [], ◌∷◌, ◌++◌, length, take, Ok, Err, codes, decimal, Result}
 use Rattle.std.specs.Str.{byte}

@@ -1,6 +1,6 @@
 -- What the states of the reader stand for. Assumes nothing.
 --     most f           the most that a number may be
---     lead f           the bytes before a number
+--     lead f           the bytes of a command before the number of the field f
 --     partial s        the bytes that are read when the reader is in a state
 --     Held f           the numbers that a field holds are within bounds
 --     Bounded s        those of a state are

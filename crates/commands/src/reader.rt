@@ -15,7 +15,7 @@ pub(crate) const MOST_NUMBER: u32 = 999_999;
 // The most that a stop's number can be.
 const MOST_STOP: u32 = 255;
 
-// A number of a command, with what stands before it.
+// A number of a command, with what was read before it.
 #[derive(Clone, Copy)]
 enum Field {
     Withdrawn,
@@ -40,8 +40,8 @@ enum Field {
     },
 }
 
-// What was read so far, as far as it matters to what may follow. That its numbers are within bounds stands in `requires`: an
-// enum carries no fact, and a struct round it would leave the functions that match on its cases as they are.
+// What was read so far, as far as it matters to what may follow. That its numbers are within bounds is said by `requires`: an
+// enum has no invariant, and a struct round it would leave the functions that match on its cases as they are.
 #[derive(Clone, Copy)]
 enum State {
     Start,
@@ -70,8 +70,9 @@ fn limit(field: Field) -> u32
     }
 }
 
-// Whether a number that is `value` so far may go on as `longer`: not behind a leading 0, and not past its limit. Here and in the next two
-// functions field and value come apart, which are what `State::Within` holds: a case of an enum is no type.
+// Whether a number that was `value` before its last digit and is `longer` with it may be written so: nothing follows a leading
+// 0, and no number is above its limit. This and the next two functions take `field` and `value` as two parameters, although
+// `State::Within` holds both, because one case of an enum can't be the type of a parameter.
 fn may_go_on(field: Field, value: u32, longer: u32) -> bool
     ensures { result ≡ (nat_lt 0 value && nat_le longer (most field)) }
 {
@@ -145,8 +146,9 @@ fn space_after(field: Field, value: u32) -> Option<State>
     Some(next)
 }
 
-// The state behind one byte more, none where no command goes on with it. It is a rule of the project that the letters are cases of the
-// machine, matched together with its state, so no `TryFrom` makes a measure of its letter.
+// The state behind one byte more, none where no command goes on with it. Every byte is matched together with the state that it
+// meets, the letters of the measures too, so that what may follow what is read off one table: a `TryFrom` of a letter would be a
+// second one.
 fn step(state: State, byte: u8) -> Option<State>
     requires { Bounded state }
     ensures { Moved state byte result }

@@ -1,7 +1,8 @@
 -- A conversation over a reader and a writer. Assumes nothing.
--- events and place tell a source's list and place; what a post and its tables are is a desk. b is
--- the desk before, a or z the one after; bs is what the reader has left before, r' what it has left
--- after; w and w' are what the writer holds, before and after; r is the result.
+-- events and place tell a source's list and place; a desk is what a post and its tables are at a
+-- moment. b is the desk before, a or z the one after; bs is what the reader has left before, r' what
+-- it has left after; w and w' are what the writer holds, before and after; r is the result. A w that
+-- is none is not known: then nothing is said of w'.
 --     ReadsLine bs l r r'  a line is read off the text bs: it is l; or there is none; or, at an
 --                          error, no more than a line was taken
 --     WritesText t w r w'  the text t is written: all of it, or a front of it at an error
@@ -15,13 +16,14 @@
 --     Converses b bs w r r' w' a  the whole text bs is read, and what is said to it is written; or,
 --                          at an error, it is cut short
 --     FailsAtOnce bs w r r' w'  an error, with nothing read and nothing written
---     Serves o bs w r r' w'  where the day opened as a list of events, a new post over them
---                          converses, or it fails at once for want of memory; else the line of the
---                          fault is written, and nothing read
---     ServesFile o bs w r r' w'  the same of a day in a file, which may also fail at once where the
---                          file can't be read to its end
---     IsHeldBy remaining f day  the file f holds the bytes of the day; where there is no file,
---                          there are none
+--     Serves o bs w r r' w'  where o, the answer to opening the day, is a list of events, a new post
+--                          over them converses, or it fails at once, for whatever cause; where o is a
+--                          fault, its line is written, and nothing read
+--     ServesFile o bs w r r' w'  the same, or it fails at once, for whatever cause, also where o is a
+--                          fault
+--     IsHeldBy remaining f day  the file f holds the bytes of the day; where there is no file, there
+--                          are none. remaining tells the bytes that a file has left, none where that
+--                          is not known
 use Rattle.std.specs.Prelude.{◌≡◌, ◌⊎◌, ℕ, List, [], ◌++◌, length, take, Some, None, Ok, Err, OnOk, Option, Result, Bool, true, false}
 use Rattle.std.specs.Result.{IsErr}
 use Rattle.std.specs.Io.{StopsAt}

@@ -1,4 +1,4 @@
-// The service of a day whose events stand in a file.
+// The service of a day whose events are in a file.
 ghost use Rattle.std.specs.Prelude.{◌≡◌, ℕ, List, Some, IfOk};
 ghost use Rattle.blocks.specs.Blocks.{opening};
 ghost use Rattle.conversations.specs.Streams.{IsHeldBy, ServesFile};

@@ -4,8 +4,8 @@
 // reader has left are its member `remaining`, those that a writer holds its member `contents`. A file and the standard streams have
 // none: nothing is promised at these types, only that the same text runs on them.
 //
-// That a reply is handed on before the next line is waited for is tested and not proved, and so is that nothing fails where no
-// read, write or allocation did: a contract allows each function to give up with an error.
+// Two things are tested and not proved: that a reply is flushed before the next line is waited for, and that nothing fails where
+// no read, write or allocation did, since a contract allows each function to give up with an error.
 #![tactic(auto)]
 
 mod conversation;

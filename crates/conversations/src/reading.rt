@@ -6,7 +6,7 @@ ghost use Rattle.conversations.specs.Streams.{ReadsLine};
 use std::io;
 use std::io::BufRead;
 
-// Takes the byte that ends a line off its end, if it stands there.
+// Takes the newline off the end of a line, if there is one.
 fn drop_end(line: &mut Vec<u8>)
     ensures { line.new.items ≡ strip_last 10 line.old.items }
 {

@@ -1,4 +1,4 @@
-// What the contracts leave open: that a conversation comes to its end, and when a reply is handed on. The text that is wanted
+// What the contracts leave open: that a conversation comes to its end, and when a reply is flushed. The text that is wanted
 // is written by hand from the program's page.
 ghost use Rattle.std.specs.Prelude.{Some};
 

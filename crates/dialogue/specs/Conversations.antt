@@ -1,16 +1,18 @@
 -- A text of lines, and what a post says to it. Assumes nothing.
--- events and place tell a source's list and place; what a post and its tables are is a desk.
---     FirstLine bs l r     the first line of the text bs is l, and r is what stands behind it: l has no byte 10; a byte 10
+-- events and place tell a source's list and place; a desk is what a post and its tables are at a moment.
+--     FirstLine bs l r     the first line of the text bs is l, and r is the text behind it: l has no byte 10; a byte 10
 --                          ends it, or it is not empty and nothing follows
---     Conversation b bs t a r  from b on, the lines at the front of the text bs are answered in turn, each by what the one
---                          before left, up to r, which stands behind them; t is what is printed, the lines of the replies
---                          one behind another, and a is what is left
+--     Conversation b bs t a r  lines at the front of the text bs are answered in turn, the first at the desk b, each other at
+--                          the desk that the one before left; a is the desk after the last of them, b where there is none;
+--                          t is what is printed, the lines of the replies one behind another, and r is the text that is
+--                          left behind those lines
 --     WholeConversation b bs t a  every line of bs is so answered; and the marks at the end are those of some history that
 --                          extends whatever history explains the marks at the start
 --     NewDesk es b         a post that was just put up over a source of the list es, at its start, so that the empty history
---                          explains its marks; and tables that are long enough for es, its logs no longer than that
---     Said o lines t       t is what is said to the lines: where the day opened as a list of events, what a new post over them
---                          says; else the line of the fault
+--                          explains its marks; logs of two entries for each of es, boards of 512 slots, a queue of 2,048
+--                          and a step table of 1,024
+--     Said o lines t       t is what is said to the lines, o being what opening the day answered: where that is a list of
+--                          events, what a new post over them says; else the line of the fault
 use Rattle.std.specs.Prelude.{◌≡◌, ◌≢◌, ℕ, ◌*◌, ◌<◌, ◌⊎◌, List, [], ◌∷◌, ◌++◌, length, Ok, Err, Result, slice_index_or}
 use Rattle.faults.specs.declared.Fault.{Fault}
 use Rattle.records.specs.declared.event.Event.{Event}

@@ -1,5 +1,7 @@
 -- What a post does on a command, and on a line. Assumes nothing.
--- events and place tell a source's list and place; b is what the post and the tables are before, a what they are after.
+-- events and place tell a source's list and place; b is what the post and the tables are before, a what they are after;
+-- reply is the reply, or the fault in its place. S is the type of the source; X, Y and Z are the types of what log, board and
+-- queue hold, and U and V of what log and board for trips hold.
 --     Desk                 the post's source and marks; the work tables for labels that are numbers, and for labels that
 --                          are trips; the queue and the step table
 --     PostDesk S           that of a post over a source S
@@ -7,19 +9,19 @@
 --     ExtendsHistory b a   a has the source's list of b; and whatever history explains the marks of b, some history that
 --                          extends it explains those of a
 --     SameRoom b a         the work tables and the step table of a are as long as those of b
---     by_number d, by_trip d  what a query with such labels is handed of it
---     formula k            the plain formula of a measure's letter: its score of a journey
---     notice_reply r, query_reply r  the reply that an answer is told by
---     Notices k e b reply a  a notice about event e: its answer by the marks, which are all that may change
+--     by_number d, by_trip d  the part of d that a query works on: with labels that are numbers, or trips
+--     formula k            the plain formula of the measure that k stands for: its score of a journey
+--     notice_reply r, query_reply r  the reply to a notice, or to a query, whose answer is r
+--     Notices k e b reply a  a notice k about event e is answered by the marks, and nothing but these may change
 --     Tallies b reply a    a tally; nothing changes
 --     Asks .. m k q x reply y  a query under the measure m, whose scores are the formula of k, over journeys that are
---                          walks in the temporal graph; x and y are what it is handed, before and after
---     AsksByNumber .., AsksByTrip ..  such a query, with the tables for the other labels as found
+--                          walks in the temporal graph; x and y are what it works on, before and after
+--     AsksByNumber .., AsksByTrip ..  such a query, with the tables for the other labels unchanged
 --     Obeys b c reply a    what the command c does: the calls withdraw, reinstate, tally, and query under the
 --                          measure of the letter
---     Interprets b line reply a  a line that spells a command is obeyed; any other is refused with 11, and everything
---                          is as found; a extends the history of b, and has its room; the reply's line has 8,192 bytes at
---                          most
+--     Interprets b line reply a  a line that spells a command is obeyed; any other is refused with 11, and everything is
+--                          unchanged (`parse` tells for each line which it is); a extends the history of b, and its tables
+--                          are as long; the reply's line has 8,192 bytes at most
 --     Responds b line m n a m'  a line is interpreted, and its reply's line written over the front of m, n bytes long
 use Rattle.std.specs.Prelude.{◌≡◌, ℕ, ◌≤◌, Bool, List, ◌++◌, length, pos, ◌-ℤ◌, Ok, Err, Option, Result}
 use Rattle.std.specs.Result.{result_map_both}

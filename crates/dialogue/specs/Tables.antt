@@ -1,5 +1,6 @@
 -- The tables that a post works with. Assumes nothing.
---     SamePostTables t t'  each of them is the memory that it was, and as long as it was; it compares two moments, which no type can
+--     SamePostTables t t'  each table of t', after a call, is the same memory as that of t, before it, and as long; no type
+--                          compares two moments, so clauses say it
 use Rattle.steps.specs.Tables.{SameSlice}
 use Rattle.dialogue.specs.declared.tables.PostTables.{PostTables}
 

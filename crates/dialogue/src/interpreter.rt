@@ -79,7 +79,7 @@ fn find<S: Source + Drop>(
     }
 }
 
-// Does what a command says. The post has an owner, and the tables are lent for a time, so they stand beside each other.
+// Does what a command says. Post and tables are two parameters, since the post has an owner and the tables are lent for a time.
 fn obey<S: Source + Drop>(
     post: &mut Post<S>,
     command: Command,
@@ -128,7 +128,7 @@ pub fn respond<S: Source + Drop>(
     write_line(reply, tables, out)
 }
 
-// Writes the line of a reply, which is not too long, to the front of `out`, with the steps that stand in the tables.
+// Writes the line of a reply, which is not too long, to the front of `out`, with the steps that the tables have.
 fn write_line(
     reply: Result<Reply, Fault>,
     tables: &PostTables<'_>,

@@ -1,9 +1,9 @@
 -- What calls across C answer, in one number. Assumes nothing.
 --     length_coded r       a length by itself, none as -1
---     coded r              a count by itself; of a fault its number, times 2 ^ 40, its layer, times 2 ^ 32, and its place, which
---                          counts as 2 ^ 32 - 1 where it is above that, as no place in a load is
+--     coded r              a count by itself; a fault as its number times 2 ^ 40, plus its layer times 2 ^ 32, plus its place,
+--                          which counts as 2 ^ 32 - 1 where it is above that, as no place in a load is
 --     AnswersCoded .. day lines m n m'  lines are answered over a day, and n tells the answer; events and place tell the list and
---                          place of the source that the post stands on
+--                          place of the post's source
 --     LoadsCoded m bs n m'  records are loaded, and n tells the answer
 use Rattle.std.specs.Prelude.{◌≡◌, ℕ, ◌+◌, ◌-◌, ◌*◌, ◌^◌, min, List, ℤ, pos, negsuc, Some, None, Ok, Err, Option, Result}
 use Rattle.faults.specs.declared.Fault.{Fault}

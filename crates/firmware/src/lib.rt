@@ -32,7 +32,7 @@ fn code_of(fault: Fault) -> u64
 }
 
 // Loads records into memory, from its front on, and tells how many there are; or the first fault in one number, and then the
-// memory is as found.
+// memory has its old bytes again.
 #[unsafe(no_mangle)]
 pub extern "C" fn firmware_load_records(memory: &mut [u8], records: &[u8]) -> u64
     ensures { LoadsCoded memory.old records.now result memory.new }

@@ -1,4 +1,4 @@
-// What the library's traits mean at lengths and at what stands in new tables.
+// What the library's traits mean at lengths and at what new tables have in them.
 ghost use Rattle.std.specs.Prelude.{◌≡◌, None, false, IsTrue, ◌↔◌};
 ghost use Rattle.steps.specs.Arrivals.{arriving};
 ghost use Rattle.heap_tables.specs.declared.Lengths.{Lengths};
@@ -11,7 +11,7 @@ pub fn equality_is_identity()
     ensures { (a b : Lengths) → IsTrue (⟦<Lengths as PartialEq>⟧.eq a b) ↔ (a ≡ b) }
 {}
 
-/// The clone of lengths is the same, and is never refused; that of what stands in new tables is so
+/// The clone of lengths is the same, and is never refused; that of what new tables have is so
 /// where the clones of its labels are.
 pub fn clone_is_identity<L: Clone>()
     ensures lengths { let clones = ⟦<Lengths as Clone>⟧ in
@@ -21,7 +21,7 @@ pub fn clone_is_identity<L: Clone>()
         → (a b : Slots L) → clones.is_infallible a × (clones.is_clone a b → b ≡ a) }
 {}
 
-/// By default new tables have no entry and no one who stands ready, and noughts elsewhere.
+/// By default new tables have no entry and no one who is ready, and noughts elsewhere.
 pub fn defaults_are_empty<L: Default>()
     ensures { (s : Slots L) → ⟦<Slots<L> as Default>⟧.is_default s → s ≡ record {
       entry = None;

@@ -44,7 +44,7 @@ impl Lengths {
     }
 }
 
-// A number that no event has, to stand in slots of a step table that are not to be written.
+// A number that no event has, for slots of a step table that are not to be written.
 pub const NONSENSE: usize = 77_777;
 
 // The same for the tables in which a search works.
@@ -57,7 +57,7 @@ pub fn is_nonsense_behind(steps: &[usize], count: usize) -> bool
     steps.iter().skip(count).all(|step| *step == NONSENSE)
 }
 
-// What stands in the slots of new tables; by default nothing, or noughts.
+// What new tables have in their slots; by default nothing, or noughts.
 #[derive(Clone, Copy, Default)]
 pub struct Slots<L> {
     pub entry: Option<Entry<Carried<L>>>,
@@ -110,7 +110,7 @@ fn search_in<S: Source, M: Measure>(
     answer
 }
 
-// A log of entries, a board of who stands ready, a queue of awaited arrivals, and a table of steps.
+// A log of entries, a board of who is ready where, a queue of awaited arrivals, and a table of steps.
 #[derive(Drop)]
 pub struct HeapTables<L> {
     pub log: Vec<Option<Entry<Carried<L>>>>,

@@ -2,13 +2,12 @@
 -- es, p, q and js are as for journeys; m is a measure by its four functions.
 --     through m e l    the label l taken through the event e: a ride is ridden, an opening leaves it as it is
 --     along m es l js  the label l taken through the events of js, one after another
---     label_of m es js  the label of a journey: begin at its beginning, then along its events
---     score_of m es js  its label, settled at its end
+--     label_of m es js  the label of a journey: that of setting out in its first minute, taken along its events
+--     score_of m es js  the score of a journey: its label, settled in the minute in which it is over
 --     Plain m f        for every timetable's list of events, what is in force, query and journey, the
 --                      score under m is the formula f
---     SixPlain         the six measures have these formulas, first part; second part:
---                      e (end; 999,999 − begin), l (999,999 − begin; end), f (end − begin; riding),
---                      s (riding; end), n (rides; end), c (waiting; end)
+--     SixPlain         each of the six measures has the formula that stands behind its name: a pair, whose
+--                      second part counts where the first parts are equal
 use Rattle.std.specs.Prelude.{◌≡◌, ℕ, Bool, List, [], ◌∷◌, pos, ◌-ℤ◌}
 use Rattle.records.specs.declared.event.Event.{Event}
 use Rattle.records.specs.declared.event.Event.TheVariants.{Opening, Ride}

@@ -17,16 +17,17 @@
 --     final_from j js  the last of j and js
 --     total f js       the sum of f over the numbers
 --     beginning es js  when it begins: at the first event's time
---     ending es js     when it ends: at the last ride's arrival, or at the opening's minute if that comes last
+--     ending es js     when it ends: the end of its last event
 --     riding es js     the sum of its durations
 --     rides es js      how many rides it has
 --     openings es js   how many openings it has
 --     waiting es js    ending less beginning less riding
 --     gaps es js       the minutes between the end of each event and the time of the next, summed
 --     gaps_from es j js  the same, from event j on
---     Journey es p q js  js is a journey that q asks for: rising numbers of events in force, each
---                      linked to the next, with at least one ride, with exactly one opening if a call is
---                      wanted and none otherwise, from the stop that q leaves to the stop that it reaches
+--     Journey es p q js  js is a journey for q: its numbers rise, and each is that of an event in force; each
+--                      event links to the one after it; one or more of them are rides; there is exactly one
+--                      opening among them where q wants a call, and none where q wants no call; it sets out
+--                      from the stop `from` of q and is at the stop `to` in the end
 --     Fits es p q js   such a journey, that begins and ends within the window
 --     WaitingIsGaps    what a journey waits is the sum of its gaps
 use Rattle.std.specs.Prelude.{◌≡◌, ℕ, ◌+◌, ◌-◌, ◌<◌, ◌≤◌, Bool, true, cond, List, [], ◌∷◌, length, slice_index_or}

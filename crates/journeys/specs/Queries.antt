@@ -1,6 +1,6 @@
 -- When a query passes. Assumes nothing.
---     query_rules q    the rules that a query obeys, in the order in which they are tested: its stops
---                      differ; it does not close before it opens, nor after minute 999,999
+--     query_rules q    the rules that a query must obey, in the order in which they are tested: its stops
+--                      differ; its window does not close before it opens, nor after minute 999,999
 --     checked q        what checking a query answers: the query, or the first broken rule's fault
 use Rattle.std.specs.Prelude.{not, ◌&&◌, List, [], ◌∷◌, Result, ◌==◌, nat_le}
 use Rattle.faults.specs.declared.Fault.{Fault}

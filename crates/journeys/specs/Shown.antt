@@ -1,5 +1,5 @@
 -- A verdict in words. Assumes nothing.
---     shown v          its text, with its numbers in decimal, and the score in brackets
+--     shown v          the text of the verdict v, with its numbers in decimal, and the score in brackets
 use Rattle.std.specs.Prelude.{ℕ, List, ◌++◌, codes, decimal}
 use Rattle.std.specs.Fmt.{signed_decimal}
 use Rattle.journeys.specs.declared.judgment.Verdict.{Verdict}

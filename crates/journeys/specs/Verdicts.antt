@@ -1,9 +1,10 @@
 -- Judging a list of event numbers. Assumes nothing.
---     in_force marks j     the mark at j does not put event j out of force; beyond the marks all are in force
+--     in_force marks j     event j is in force: its mark is false (true is out of force), or it has no mark
 --     verdict_of m es js   begin, end, riding, rides and score of a journey
---     Judged m es p q js r the answer r on js: its verdict exactly where it fits
+--     Judged m es p q js r  r is the verdict of js where js fits, and none where it does not
 --     Chain es p js        js are rising numbers of events in force, each linked to the next
---     Next es p js         the first of js is that of an event in force, and the second may stand after it
+--     Next es p js         the first of js, if any, is that of an event in force, and the second, if any, is higher and
+--                          linked to it
 --     totals_of es js      riding, rides and openings of js
 --     Asked q d e t        a chain with these totals, of which d is the first event and e the last, is what q asks for
 use Rattle.std.specs.Prelude.{◌≡◌, ℕ, ◌<◌, ◌≤◌, Bool, true, false, cond, not, List, [], ◌∷◌, length, Option, MatchOption, slice_index_or}

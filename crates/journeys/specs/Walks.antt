@@ -5,7 +5,8 @@
 --     TemporalEdge         an edge
 --     edge_of e            the edge that an event is
 --     edges_of es js       the edges that the events with the numbers js are
---     TemporalWalk ds      each edge begins where the one before it ends, and not before it is passed
+--     TemporalWalk ds      each edge's tail is the head of the one before it, and it starts when that one is
+--                          passed, or later
 --     stays ds             how many of the edges are passed in no time
 --     WalkInWindow es p q js  js are numbers of events in force that are, as edges, a temporal walk
 --                          from q's first stop to its second; not every edge is a stay, and exactly

@@ -81,14 +81,14 @@ fn is_link(events: &[Event], first: usize, second: usize) -> bool
     reaches_at(first) == leaves_at(second) && end_of(first) <= u64::from(second.time())
 }
 
-// Whether the second number may stand right after the first.
+// Whether the second number may come right after the first.
 fn goes_on(events: &[Event], first: usize, second: usize) -> bool
     ensures { Decides result ((first < second) × Link events.now first second) }
 {
     first < second && is_link(events, first, second)
 }
 
-// Whether the first of the numbers is that of an event in force, and the second may stand right after it.
+// Whether the first of the numbers is that of an event in force, and the second may come right after it.
 fn step_holds(events: &[Event], marks: &[bool], steps: &[usize]) -> bool
     ensures { Decides result (Next events.now (in_force marks.now) steps.now) }
 {

@@ -71,7 +71,7 @@ fn print_judgment(rt: &impl Print, day: &Day, query: Query, steps: &[usize]) -> 
     Ok(())
 }
 
-// The event numbers that stand behind the question of a line.
+// The event numbers behind the question of a line.
 fn steps(heap: Global, line: &str) -> anyhow::Result<Vec<usize>> {
     let mut found = Vec::new(heap);
     for word in line.split(' ').skip(WORDS_OF_A_QUESTION) {

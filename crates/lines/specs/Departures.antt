@@ -1,16 +1,16 @@
 -- The departures of lines, and the timetable that they make. Assumes nothing.
---     before x y          x departs earlier, or in the same minute and its line stands earlier
+--     before x y          x departs earlier, or in the same minute and its line comes earlier in the block
 --     departing m i       the departure of line i in minute m
 --     run_from m v i n    n departures of line i, from minute m on, v minutes apart
---     run i l             those of a line at position i
---     gather g i xs       what g gives of each x at its position, positions from i on, one after another
+--     run i l             the departures of the line l, whose position is i
+--     gather g i xs       the lists that g makes of each of xs and its position, which is i for the first, joined into one
 --     runs ls             the departures of all lines, line after line
 --     ride_at l m         the ride of a line that departs in minute m
 --     ride_on ls d        the ride of a departure
 --     Timetable ls es     es are the rides of all lines, rearranged by departure and then by line position
---     OnlyOne             lines have only one such list
---     ordered_insertion x ds  ds with x put before the first departure that it does not follow
---     sorted ds           all of ds, so put in order
+--     OnlyOne             the same lines have only one such list es
+--     ordered_insertion x ds  ds with x put in before the first of them that does not go before x
+--     sorted ds           ds in order, by such insertions
 --     departures ls       the departures of all lines in order
 --     events_on ls        their rides, which are a timetable
 use Rattle.std.specs.Prelude.{◌≡◌, ℕ, zero, suc, ◌+◌, Bool, cond, ◌&&◌, ◌||◌, List, [], ◌∷◌, ◌++◌, map, ◌==◌, nat_lt, slice_index_or}

@@ -1,12 +1,15 @@
 -- How journeys are scored. Assumes nothing.
 --     Score            a pair of whole numbers, of which either may be negative; lower is better
 --     s ≼ t            s is not higher than t: by the first parts, and where these are equal by the second
---     Ops L            a measure with labels of the kind L, by its four functions: begin turns a minute
---                      into a label, ride a label and a duration into a label, no_worse compares two
---                      labels, settle turns a label and an end into a score
---     Laws m           what a measure owes: no_worse is total and transitive; a label that is no worse
---                      than another stays so after the same ride, of 1 to 1,440 minutes; and settled at
---                      the same end, up to minute 999,999, its score is not higher
+--     Ops L            a measure whose labels are of the kind L, as four functions: the label of a journey
+--                      that sets out in a minute (begin), what becomes of a label over a ride of so many
+--                      minutes (ride), whether the first of two labels is at least as good as the second
+--                      (no_worse), and the score of a journey with a label that is over in a minute (settle)
+--     Laws m           what a measure m has to prove of its functions. Of any two labels one is no worse than
+--                      the other (total), and no worse than no worse is no worse (transitive). A label that
+--                      is no worse than another is no worse after both take the same ride, of 1 to 1,440
+--                      minutes (rides), and has no higher score where both are settled in the same minute, up
+--                      to 999,999 (settles)
 use Rattle.std.specs.Prelude.{ℕ, ◌≤◌, ℤ, ◌<ℤ◌, ◌≤ℤ◌, Bool, true, ◌⊎◌, ◌≡◌}
 
 abbrev pub Score : Type 0

@@ -1,11 +1,12 @@
 -- The six measures, each by its four functions. Sums in labels stop at 2 ^ 32 - 1. Assumes nothing.
+-- Of each: its letter in a command; the first and the second part of its score; its label, and which label is no worse.
 --     capped a b       the sum of a and b, or 2 ^ 32 - 1 where it is above that
---     earliest         e: end; 999,999 − begin. The label is the begin
---     latest           l: 999,999 − begin; end. The label is the begin
---     fastest          f: end − begin; riding. The label is begin and riding
---     least_riding     s: riding; end. The label is the riding
---     fewest_rides     n: number of rides; end. The label is that number
---     least_waiting    c: waiting; end. The label is begin plus riding
+--     earliest         e: end; 999,999 − begin. The label is the begin; a later one is no worse
+--     latest           l: 999,999 − begin; end. The label is the begin; a later one is no worse
+--     fastest          f: end − begin; riding. The label is begin and riding; a later begin is no worse, then less riding
+--     least_riding     s: riding; end. The label is the riding; less is no worse
+--     fewest_rides     n: number of rides; end. The label is that number; a lower one is no worse
+--     least_waiting    c: waiting; end. The label is begin plus riding; a higher one is no worse
 use Rattle.std.specs.Prelude.{ℕ, ◌+◌, ◌-◌, ◌^◌, min, eqb, leb, ltb, pos, ◌-ℤ◌, ◌&&◌, ◌||◌}
 use Rattle.measures.specs.declared.by_trip.Trip.{Trip}
 use Rattle.measures.specs.Measures.{Ops}

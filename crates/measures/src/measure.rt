@@ -2,8 +2,8 @@
 ghost use Rattle.std.specs.Prelude.{◌≡◌};
 ghost use Rattle.measures.specs.Measures.{Laws, Ops};
 
-// A way to score journeys, by labels that an unfinished journey carries along. Each function answers
-// from what it is handed alone.
+// A way to score journeys, by labels that an unfinished journey carries along. No function remembers anything: the
+// same arguments give the same result.
 pub trait Measure {
     type Label: Copy;
 

@@ -1,4 +1,4 @@
-// The program of a post: opens `day.tt` as records, and answers each line of standard input with one line.
+// The program of a post: reads the day's records, and then answers what it is asked on standard input, line by line.
 #![tactic(auto)]
 
 use conversations::serve_file;
@@ -9,7 +9,7 @@ use std::io::BufReader;
 // The file of the day's events.
 const DAY: &str = "day.tt";
 
-// A file that can't be opened counts as empty.
+// Where the file can't be opened, for whatever reason, the day has no events.
 fn main(rt: HostRuntime) -> io::Result<()> {
     let mut lines = BufReader::new(rt.alloc(), rt.stdin())?;
     let day = File::open(&rt, DAY).ok();

@@ -7,7 +7,7 @@ use search::{Answer, Tables};
 use sources::Source;
 use timetable_post::Post;
 
-// A measure, as a row of a table names it: a type can't stand there.
+// A measure, as a row of a table names it: a row can't have a type in it.
 #[derive(Clone, Copy)]
 pub enum Letter {
     E,

@@ -1,4 +1,4 @@
-// Sources of events, and the place at which one stands.
+// Sources of events, and the place of one.
 use blocks::Load;
 use faults::Fault;
 use lines::LineSource;

@@ -1,4 +1,4 @@
-// What stands in the tables before a query, so that a slot that was written is told from one that was not.
+// What the tables have in them before a query, so that a slot that was written is told from one that was not.
 use heap_tables::{HeapTables, NO_EVENT, NONSENSE, Slots, is_nonsense_behind};
 use search::Carried;
 use steps::{Arrival, Entry, Stage, Standing};

@@ -1,4 +1,4 @@
-// The tests, each with tables of calls and of what is owed to them.
+// The tests, each with tables of calls and of their right answers.
 use crate::asking::Letter::{E, L};
 use crate::asking::{Letter, ask, from_to};
 use crate::days::{place_of, two_lines, worked_day};
@@ -14,10 +14,11 @@ use std::process::Abort;
 use std::test::Fail;
 use timetable_post::Post;
 
-// A measure, the stop to reach, what is told of the best journey from stop 1 within 100 to 200, and the journey.
+// A measure, the stop to reach, the numbers that the answer has for the best journey from stop 1 within 100 to 200, and the
+// journey.
 type Row<'a> = (Letter, u8, Answer, &'a [usize]);
 
-// What is told of a journey without a call, whose steps are rides: six numbers of a row.
+// The answer for a journey without a call, whose steps are rides: six numbers of a row.
 fn told(
     begin: u32,
     end: u32,

@@ -8,11 +8,14 @@
 --     Putting slots used x answer ..   what `put` does, by its answer
 --     Taking slots used answer ..      what `take` does, by its answer
 --     Peeking slots used answer        what `peek` answers
--- The last two arguments of each are the slots and the count that the call leaves. Of their fields
---     room, full, none    say when it comes to this
+-- `..` stands for the slots and the count that the call leaves, which are the last two arguments. Of the fields
+--     room, full          when it comes to this: a slot is free, or none is
+--     some, none          when it comes to this: something is held, or nothing is
+--     slots_same, used_same, fault_is  nothing changed, and the fault is 16
+--     next                the first slot holds x
 --     count, long         what the count is after, and that there are as many slots
 --     bag                 no element is lost and none is made; `IsPermutation xs ys` is the library's: ys is a rearrangement of xs
---     beyond              the slots that are not in use are as found, and the one that a take frees holds what went out
+--     beyond              the slots that are not in use are unchanged, and the one that a take frees holds what went out
 --     heaped              heap order is kept
 --     least, only         what a queue in heap order gives is least, and the only least one where the order is connected
 use Rattle.std.specs.Prelude.{◌≡◌, ℕ, ◌+◌, ◌<◌, ◌≤◌, min, Bool, List, [], ◌∷◌, ◌++◌, length, take, drop, Some, None, Ok, Err, Option, Result, slice_index_or}

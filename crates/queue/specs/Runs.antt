@@ -3,8 +3,8 @@
 --     Calls before s u cs s' u'       the calls cs in turn took a queue from slots s and count u to slots s' and count u'
 --     Answers before n bag c bag'     a priority queue with room for n elements that holds bag answers c, and holds bag' then
 --     Run before n bag cs bag'        it answers the calls cs in turn
---     PriorityQueue before s          calls from an empty queue over the slots s on are answered as by a priority queue
---                                     with room for as many elements, which then holds what the queue holds, the count its size
+--     PriorityQueue before s          any calls, begun on an empty queue over the slots s, are answered as by a priority queue
+--                                     with room for as many elements, which then holds what the queue holds, as many as the count
 --     Drained before s                after such calls, taking until none is left gives what was held, rising
 -- A bag is a list of which the order tells nothing.
 use Rattle.std.specs.Prelude.{◌≡◌, ℕ, ◌<◌, ◌≤◌, Bool, List, [], ◌∷◌, ◌++◌, map, length, Some, None, Ok, Err, Option, Result}

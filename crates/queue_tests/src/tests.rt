@@ -60,7 +60,7 @@ fn agrees(
     Ok(())
 }
 
-// The queue and the list that it is held against stand beside each other, as they are compared.
+// Puts an element into both, the queue and the list that it is compared with.
 fn agrees_on_put(
     rt: &impl Abort,
     slots: &mut [Item],

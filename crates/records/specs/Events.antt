@@ -1,9 +1,10 @@
--- What an event is, and its limits. Assumes nothing.
+-- The limits of events, and their order. What an event is: src/event.rt. Assumes nothing.
 --     time_of e        an opening's minute, a ride's departure
---     limits p e       the rules that an event obeys, at place p: a ride's stops differ, it lasts 1 to
---                      1,440 minutes, and its arrival, or an opening's minute, is at most 999,999
---     Stops e          its stops are stops, of which there is one proof at most (Stops-prop)
---     Within e         it breaks none of its limits, and its stops are stops
+--     limits p e       the rules that an event must obey, p being the place in their faults: a ride's stops
+--                      differ, it lasts 1 to 1,440 minutes, and its arrival, or an opening's minute, is at
+--                      most 999,999
+--     Stops e          its stops are below 256; there is at most one proof of that (Stops-prop)
+--     Within e         it breaks none of its limits, and its stops are below 256
 --     in_order d e     e may stand right after d: times do not fall, and within a minute no opening
 --                      follows a ride
 --     Listed es        a timetable's list of events: at most 1,024, each within the limits, in order

@@ -1,6 +1,6 @@
 -- The kinds of records. Assumes nothing.
---     Decodes c r      r is the kind that the byte c tells: 1 an opening, 2 a ride; else that it tells none
---     spare_of k bs    the bytes that a record bs of the kind does not use
+--     Decodes c r      r is the kind of the byte c: 1 an opening, 2 a ride; of any other, the error with c in it
+--     spare_of k bs    the bytes that a record bs of the kind k does not use
 use Rattle.std.specs.Prelude.{◌≡◌, ℕ, cond, List, ◌++◌, take, drop, Ok, Err, Result, ◌==◌}
 use Rattle.records.specs.declared.kind.Kind.{Kind}
 use Rattle.records.specs.declared.kind.Kind.TheVariants.{Opening, Ride}

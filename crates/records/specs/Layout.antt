@@ -1,7 +1,7 @@
 -- The sixteen bytes of a record. Assumes nothing.
 --     half bs i        the number in the two bytes from i, highest first
 --     word bs i        the number in the four bytes from i, highest first
---     event_in bs      the event that the fields of a record give
+--     event_in bs      the event in the fields of a record: an opening where the kind is 1, else a ride
 --     is_opening bs, is_ride bs  the kind is 1, or 2
 --     spare bs         the bytes that its kind does not use, a ride's where it is not an opening's
 --     zeros bs         every byte is 0

@@ -1,5 +1,5 @@
 -- An event in words. Assumes nothing.
---     shown e          its text, with its numbers in decimal
+--     shown e          the text of the event e, with its numbers in decimal
 use Rattle.std.specs.Prelude.{ℕ, List, ◌++◌, codes, decimal}
 use Rattle.records.specs.declared.event.Event.{Event}
 use Rattle.records.specs.declared.event.Event.TheVariants.{Opening, Ride}

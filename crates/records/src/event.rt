@@ -105,7 +105,7 @@ impl Event {
         }
     }
 
-    // Whether `next` may stand right after this event: its time is not earlier, and within a minute
+    // Whether `next` may come right after this event: its time is not earlier, and within a minute
     // no opening follows a ride.
     pub fn may_precede(self, next: Event) -> bool
         ensures { result ≡ in_order self next }

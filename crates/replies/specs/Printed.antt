@@ -1,8 +1,9 @@
 -- How a post's replies are printed. Assumes nothing.
 --     newline              the byte that ends a line
 --     numbers ns           each of the numbers in decimal, a space before each
---     printed_journey a steps  the words of the journey that an answer names; it stands at the front of the step table
---     printed_words r steps  the words of a reply, or of the fault in its place
+--     printed_journey a steps  `go`, begin, end, riding and rides of the answer a, ` :`, and the event numbers of the journey
+--                          that it names, from the front of the step table
+--     printed_words r steps  `ok`, a count, or a journey; or the words of the fault in their place
 --     printed r steps      its line, with the byte that ends it
 --     Written r steps m m' n  the line of r was written over the front of m, n bytes long
 --     Wrote r steps m m' a the answer a tells how many bytes were written, the line of r, over the front of m, with the

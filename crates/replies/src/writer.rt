@@ -27,7 +27,7 @@ fn push_numbers(line: &mut Line, values: &[usize]) -> Result<(), CapacityError>
     Ok(())
 }
 
-// What is told of a journey, as a line lists it; no `From`, since an array of numbers means nothing where the verdict is.
+// Begin, end, riding and rides, as a line lists them; no `From`, since an array of numbers means nothing where the verdict is.
 fn told_of(verdict: Verdict) -> [usize; 4]
     ensures { result ≡ verdict.begin ∷ verdict.end ∷ verdict.riding ∷ verdict.rides ∷ [] }
 {

@@ -1,5 +1,5 @@
--- What a line of a script tells: its first word is a letter, behind it stand numbers in decimal
--- digits, before which a plus may stand. Assumes nothing.
+-- What a line of a script tells: its first word is a letter, and behind it are numbers in decimal
+-- digits, with or without a plus in front. Assumes nothing.
 --     words_of line                the words of a line, between which there is one space
 --     number_in k w                the number below 2 ^ k that the word w writes, none where it
 --                                  writes none

@@ -3,7 +3,7 @@
 --                               are as many as before, or reach up to n
 --     Taken line es ms r es' ms'  the answer r on a line, and what it makes of the events es and the marks ms: a new day has
 --                               neither; an event comes behind the others; a withdrawal marks its event; a question is
---                               handed back. Where there is no memory for an event or a mark, everything is as before
+--                               given back. Where there is no memory for an event or a mark, everything is as before
 use Rattle.std.specs.Prelude.{◌≡◌, ℕ, ◌+◌, max, Bool, not, ◌&&◌, List, [], ◌∷◌, ◌++◌, length, Some, None, Ok, Err, Option, Result, ◌==◌}
 use Rattle.records.specs.declared.event.Event.{Event}
 use Rattle.journeys.specs.declared.query.Query.{Query}

@@ -1,7 +1,8 @@
--- What labels carry along, and that a measure over them keeps its laws. Assumes nothing.
+-- What labels carry along, with the proofs for the impl in src/carried.rt. Assumes nothing.
 --     carrying_laws        carrying m keeps the laws that m keeps
 --     Carries m es l js r  r is what the label l has become after the events js: m's label, and what it carries along
---     label_carries        so it is with the label of every list of events whose sums stay small
+--     label_carries        the label of a list of events whose sums stay small carries m's label, and the list's begin,
+--                          riding and rides
 use Rattle.std.specs.Prelude.{◌≡◌, ℕ, ◌+◌, ◌^◌, ◌<◌, List, [], ◌∷◌, refl}
 use Rattle.std.proofs.Common.{ap, ◌∙◌, arith}
 use Rattle.records.specs.declared.event.Event.{Event}

@@ -1,5 +1,5 @@
--- When the tables that are handed over with a query pass. Assumes nothing.
---     Lengths          the lengths of the handed tables: log, board, queue of arrivals, steps
+-- When the tables that are given with a query are long enough. Assumes nothing.
+--     Lengths          the lengths of these tables: log, board, queue of arrivals, steps
 --     lengths_in a b c d  how long these are, as log, board, queue and step table
 --     table_rules n t  the rules that tables of the lengths t obey for n events: two entries of the log and two slots
 --                      of the queue for each, 512 entries of the board; and a slot of the step table for each

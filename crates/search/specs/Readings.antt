@@ -1,4 +1,4 @@
--- How the log stands once a source was read, and the entry that leads. Assumes nothing.
+-- What the log has once a source was read, and the entry that leads. Assumes nothing.
 --     Cleared table        every slot of a table reads as none
 --     ReadUp ..            the events up to the close were taken, one after another: how many there are, where the
 --                          source stands then, and that the log is right and has entries for those events alone
@@ -7,9 +7,9 @@
 --     scored m e           the score of an entry, settled at its end
 --     Leads m q log k r    of the entries for events before k that end as q asks, r has the lowest score; none
 --                          where there is no such entry
---     LeadsOn ..           from who leads before event i, and the entry for i, r is who leads before the next
+--     LeadsOn m q x i e r  where x leads of the entries before event i, and e is the entry for i, r leads before event i + 1
 --     Travelled ..         the journey found, by label, end, steps and reads; or none, because none fits
---     telling m a          what is told of a journey by its last label under carrying m
+--     telling m a          the answer for a journey found, from its last label under carrying m
 use Rattle.std.specs.Prelude.{◌≡◌, ℕ, ◌+◌, ◌<◌, ◌≤◌, Bool, List, ◌++◌, length, drop, Some, None, Option, slice_index_or}
 use Rattle.records.specs.declared.event.Event.{Event}
 use Rattle.measures.specs.Measures.{Ops, Score, ◌≼◌}

@@ -1,13 +1,13 @@
 -- What a search finds. Assumes nothing.
--- es, p, q and m are as for journeys and scores: events, what is in force, the query, the measure.
+-- es, p, q and m are as for journeys and scores: events, what is in force, the query, the measure. steps and steps' are
+-- the step table before and after, and `..` stands for m es p q steps.
 --     reads_of es c        how many events are read: up to and including the first that is later than c, else all
---     answer_of m es js n  what is told of the journey js after n reads
---     named a steps        the journey that the answer a names: as many numbers as it tells, from the front of
---                          the step table
---     Named ..             the answer a names a journey: the journey fits; no journey that fits scores lower; what
---                          a tells is true of it; and the step table is as it was behind it
---     Found ..             what a search finds, by its answer: a journey, or none because none fits, and then
---                          the step table is as it was
+--     answer_of m es js n  the answer that is true of the journey js after n reads
+--     named a steps        the journey that the answer a names: the first a.steps numbers of the step table
+--     Named .. a steps'    the answer a names a journey: the journey fits; no journey that fits scores lower; what
+--                          a says is true of it; and behind it the step table is unchanged
+--     Found .. o steps'    what a search finds, by its answer o: a journey, or none because none fits, and then
+--                          the step table is unchanged
 use Rattle.std.specs.Prelude.{◌≡◌, ℕ, ◌+◌, min, Bool, List, length, take, drop, Some, None, Option}
 use Rattle.records.specs.declared.event.Event.{Event}
 use Rattle.measures.specs.Measures.{Ops}

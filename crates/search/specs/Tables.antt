@@ -1,6 +1,7 @@
--- The tables that a search is handed. Assumes nothing.
+-- The tables that a search is given. Assumes nothing.
 --     lengths t            how long the tables t are
---     SameTables t t'      each of them is the memory that it was, and as long as it was; it compares two moments, which no type can
+--     SameTables t t'      each table of t', after a call, is the same memory as that of t, before it, and as long; no type
+--                          compares two moments, so clauses say it
 use Rattle.steps.specs.Tables.{SameSlice}
 use Rattle.search.specs.declared.tables.Tables.{Tables}
 use Rattle.search.specs.Queries.{Lengths, lengths_in}

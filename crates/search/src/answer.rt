@@ -4,8 +4,8 @@ ghost use Rattle.search.specs.Searches.{named};
 
 use journeys::Verdict;
 
-// What is said of the journey that is named, how many steps it has, and how many events were read. The number of steps stands
-// beside the step table, which is handed over.
+// Score, begin, end, riding and rides of the journey that is named, how many steps it has, and how many events were read. The
+// steps themselves are at the front of the caller's step table.
 #[derive(Clone, Copy, PartialEq, Eq, Debug)]
 pub struct Answer {
     pub verdict: Verdict,
@@ -14,7 +14,7 @@ pub struct Answer {
 }
 
 impl Answer {
-    // The steps of the journey that it names, which stand at the front of a step table.
+    // The steps of the journey that it names, at the front of a step table.
     pub fn named(self, steps: &[usize]) -> &[usize]
         ensures { result.now ≡ named self steps.now }
     {

@@ -30,9 +30,10 @@ struct Arrived<L> {
     reads: usize,
 }
 
-// Reads the source and finds a journey with the lowest score, in tables that are long enough, which is one word, handed down from the
-// test that finds it. Source, marks and query come apart: a post lends two of its fields beside each other, and the query is its
-// caller's. A struct of loans would be made in one place and taken apart in the next.
+// Reads the source and finds a journey with the lowest score. Its caller has tested that the tables are long enough
+// (`LongEnough`). Source, marks and query are three parameters and no struct: the first two are borrowed from two fields of a
+// post and the query from whoever asks, so that a struct of borrows would be made here only to be taken apart in the function
+// below.
 fn travel<S: Source, M: Measure>(
     source: &mut S,
     marks: &[bool],
@@ -60,7 +61,7 @@ fn travel<S: Source, M: Measure>(
     })
 }
 
-// What is told of a journey that was found.
+// The answer for a journey that was found: its score, begin, end, riding and rides, its number of steps, and the reads.
 fn answer<M: Measure>(arrived: Arrived<Carried<M::Label>>) -> Answer
     ensures { result ≡ telling M.ops arrived }
 {
@@ -83,7 +84,7 @@ fn answer<M: Measure>(arrived: Arrived<Carried<M::Label>>) -> Answer
     }
 }
 
-// What is told, if a journey was found.
+// The same, if a journey was found.
 fn told<M: Measure>(arrived: Option<Arrived<Carried<M::Label>>>) -> Option<Answer>
     ensures { result ≡ option_map (telling M.ops) arrived }
 {

@@ -1,4 +1,5 @@
-// The search for a best journey, in handed tables: a log of entries, a board of who stands ready at a stop, and awaited arrivals.
+// The search for a best journey, in tables that the caller lends: a log of entries, a board of who is ready at a stop, and a
+// queue of awaited arrivals.
 #![tactic(auto)]
 
 mod answer;

@@ -28,8 +28,9 @@ fn is_later(event: Event, minute: u32) -> bool
     event.time() > minute
 }
 
-// Reads a source from its start, takes each event up to the query's close as a step, and tells how many there are. Source, marks and
-// query come apart, as for the whole search. That the tables are long enough is spelled out: `Work` has no step table to speak of.
+// Reads a source from its start, takes each event up to the query's close as a step, and tells how many there are. Source, marks
+// and query are three parameters, as for the whole search. How long each table is at least is spelled out, since `Work` has no
+// step table.
 fn read_on<S: Source, M: Measure>(
     source: &mut S,
     marks: &[bool],
@@ -46,7 +47,7 @@ fn read_on<S: Source, M: Measure>(
     ensures same { SameWork work.old work.new }
 {
     source.rewind();
-    // A source is no iterator: it stands at a place, and every read is a call on it. So the number is counted here.
+    // A source is no iterator, and every read is a call on it. So the number is counted here.
     let mut number: u16 = 0;
     while let Some(event) = source.next() {
         if is_later(event, query.close) {
@@ -60,8 +61,8 @@ fn read_on<S: Source, M: Measure>(
     number
 }
 
-// Reads a source up to the query's close, in tables that are long enough, and tells how many events there are up to it. That
-// they are is handed down from the test that found it. Source, marks and query come apart, as for the whole search.
+// Reads a source up to the query's close, and tells how many events there are up to it. The caller has tested that the tables
+// are long enough. Source, marks and query are three parameters, as for the whole search.
 pub(crate) fn read_up<S: Source, M: Measure>(
     source: &mut S,
     marks: &[bool],

@@ -1,4 +1,4 @@
-// The tables that a search is handed.
+// The tables that a search borrows.
 ghost use Rattle.std.specs.Prelude.{◌≡◌, ◌≤◌, length};
 ghost use Rattle.faults.specs.Rules.{judged};
 ghost use Rattle.search.specs.Queries.{table_rules};
@@ -10,7 +10,7 @@ use steps::{Arrival, Entry, Standing};
 // How many slots a board has: one for each stop and call state.
 pub const BOARD_SLOTS: usize = 512;
 
-// A log of entries, a board of who stands ready at a stop, a queue of awaited arrivals, and a table of steps, whose front
+// A log of entries, a board of who is ready at a stop, a queue of awaited arrivals, and a table of steps, whose front
 // takes the event numbers of the journey that a search names.
 #[derive(Drop)]
 pub struct Tables<'a, L> {

@@ -1,4 +1,4 @@
-// Rubbish in the tables that a search is handed.
+// Rubbish in the tables that a search borrows.
 use heap_tables::{NO_EVENT, NONSENSE, Slots};
 use search::Carried;
 use steps::{Arrival, Entry, Stage, Standing};

@@ -11,7 +11,7 @@
 -- Of the fields
 --     same, start, end          say that the list is as before, the place 0, the place the list's end
 --     item                      the answer is the event at the place, none at the end
---     step                      the place is one further, at the end as before
+--     step                      the place is one further, but never past the end
 --     openings, rides           so many of the list's events are openings, and rides
 use Rattle.std.specs.Prelude.{◌≡◌, ℕ, ◌+◌, min, Bool, true, false, not, List, [], ◌∷◌, ◌++◌, map, length, count_by, Option}
 use Rattle.std.specs.List.{range_with_len, slice_get}

@@ -27,7 +27,7 @@ impl Counts {
     }
 }
 
-// Reads a source from its start to its end, wherever it stands, and counts its events.
+// Reads a source from its start to its end, wherever its place is, and counts its events.
 pub fn read_through<S: Source>(source: &mut S) -> Counts
     ensures through { ReadThrough (S.events source.old) result (S.events source.new) (S.place source.new) }
     ensures repeats { Repeats (S.events source.old) (S.place source.old) }

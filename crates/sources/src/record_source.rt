@@ -12,7 +12,7 @@ use blocks::Block;
 use faults::Fault;
 use records::{Event, MOST_EVENTS};
 
-// What stands in the part of a table that is not filled. The judge has the same opening with another meaning, for a number beyond
+// What the part of a table has that is not filled. The judge has the same opening with another meaning, for a number beyond
 // the list.
 const BLANK: Event = Event::Opening { stop: 0, minute: 0 };
 

@@ -15,7 +15,7 @@ pub trait Source {
     // The list of every source is a timetable's.
     ghost listed: { (s : Self) → Listed (events s) };
 
-    // No source stands behind its end.
+    // No source is past its end.
     ghost within: { (s : Self) → place s ≤ length (events s) };
 
     // The number of the list's events.

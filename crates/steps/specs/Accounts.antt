@@ -3,7 +3,7 @@
 --     Due minute ..        what taking an arrival that is due by a minute does, by its answer
 --     Queued log k a       the arrival a is that of an entry for an event before k
 --     StandingThere ..     x is the label of an entry for an event before k that leaves its traveller at stop s by t
---     Overtaken ..         the entry e is ready by t, and who stands at its stop is no worse
+--     Overtaken ..         the entry e is ready by t, and who is ready at its stop is no worse
 --     Accounts m w k t     with w in the tables: heaped: the queue is in heap order; wide: the board has a slot for each
 --                          stop and call state; near: entries are for events before k; queued, standing: what queue
 --                          and board hold are labels of entries; covered: every entry is awaited still, or overtaken

@@ -2,10 +2,10 @@
 --     bit c                1 where the call was made, 0 where not
 --     slot_of i c          the slot of event or stop i in call state c: two for each
 --     logged log i c       the entry for event i in call state c
---     stands board s c     who stands ready at stop s in call state c
---     preferred m s x      x, unless what stands there, s, is no worse
---     brought m log b a    the board b once the arrival a is there: its entry's label stands ready at its stop,
---                          unless one that stands there is no worse
+--     stands board s c     who is ready at stop s in call state c
+--     preferred m s x      x, unless s, which is there already, is no worse
+--     brought m log b a    the board b once the arrival a is there: its entry's label is at its stop,
+--                          unless the one that is there is no worse
 --     brought_by m b a r   the same, with r as the entry of the arrival, if there is one
 use Rattle.std.specs.Prelude.{ℕ, ◌+◌, ◌*◌, Bool, cond, List, Some, None, Option, slice_index_or, slice_set}
 use Rattle.measures.specs.Measures.{Ops}

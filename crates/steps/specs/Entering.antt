@@ -1,12 +1,12 @@
 -- The entry that a step makes of an event in a call state. Assumes nothing.
 --     fresh_label m q e    the label of a journey that begins with e, none where q lets none begin there
---     onward x b           the label of x, who stands ready in call state b, and where it came from
---     chosen m f x b       the better of a fresh label f and of x, who stands ready in call state b
+--     onward x b           the label of x, who is ready in call state b, and where it came from
+--     chosen m f x b       the better of a fresh label f and of x, who is ready in call state b
 --     capped_end e         the end of e, up to 2 ^ 32 - 1
 --     best_before m b q e c the best label with which e can be taken so that the call state is c then, by a
 --                          fresh start or from the board b, and where it came from
 --     best_at m b q e o c  the same, where o says whether e is an opening
---     entered m e x        the entry for e that comes of it
+--     entered m e x        the entry for e that the label and origin x give, none where x is none
 use Rattle.std.specs.Prelude.{ℕ, ◌-◌, ◌^◌, min, Bool, true, false, cond, ◌&&◌, List, Some, None, Option, ◌==◌, nat_le}
 use Rattle.records.specs.declared.event.Event.{Event}
 use Rattle.records.specs.Events.{time_of}

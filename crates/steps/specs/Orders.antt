@@ -1,4 +1,4 @@
--- The laws of the order of awaited arrivals: it is a strict weak one. Assumes nothing.
+-- Proofs that the order of awaited arrivals is a strict weak one, for the impl in src/arrival.rt. Assumes nothing.
 --     by_first_asymmetric, by_first_cotransitive  an order by a number first keeps the laws that the order behind it has
 --     sooner_asymmetric, sooner_cotransitive      so the order of arrivals keeps them
 use Rattle.std.specs.Prelude.{◌≡◌, ℕ, ◌<◌, Bool, true, false, not, ◌&&◌, ◌⊎◌}

@@ -1,13 +1,13 @@
--- How a search stands once k events are done and the clock is at minute t. Assumes nothing.
+-- What a search has once k events are done and the clock is at minute t. Assumes nothing.
 -- w and w' are what its tables hold, before and after.
 --     Noting r s w w'      the entry r, if there is one, is written for the stage s and its arrival awaited; if there is
 --                          none, nothing changes
 --     StandsRight .. w     board and queue account for the log, its entries agree with their events, and it is
 --                          right: each entry is a best one
---     Steps .. w w'        from standing right at event k, the search stands right at the next
+--     Steps .. w w'        a search that is right up to event k is right up to the next
 --     Room k w             the log has slots for event k, and the queue two that are free
 --     Stepping .. w r w'   what a step does, by its answer: there is room and it steps, with at most two slots more in
---                          use; or there is none, and everything is as found
+--                          use; or there is none, and everything is unchanged
 use Rattle.std.specs.Prelude.{◌≡◌, ℕ, ◌+◌, ◌<◌, ◌≤◌, Bool, true, List, length, Some, None, Ok, Err, Option, Result, slice_set}
 use Rattle.faults.specs.declared.Fault.{Fault}
 use Rattle.faults.specs.declared.Fault.TheVariants.{WorkTableTooShort}

@@ -2,8 +2,8 @@
 --     Contents L           a log, a board, and a queue of arrivals with the number of its slots that are in use
 --     contents w           what the tables w hold
 --     awaited c            the arrivals that the queue holds
---     SameSlice a b        a slice is the memory that it was, and as long as it was
---     SameWork w w'        so it is with the log, the board and the queue; it compares two moments, which no type can
+--     SameSlice a b        the slice b, after a call, is the same memory as the slice a, before it, and as long
+--     SameWork w w'        so it is with the log, the board and the queue; no type compares two moments, so clauses say it
 use Rattle.std.specs.Prelude.{◌≡◌, ℕ, List, length, Option}
 use Rattle.std.specs.Borrow.{MutBor}
 use Rattle.queue.specs.Queue.{held}

@@ -5,8 +5,8 @@ ghost use Rattle.steps.specs.Orders.{sooner_asymmetric, sooner_cotransitive};
 use crate::entry::Stage;
 use queue::Precedence;
 
-// The minute in which a stage leaves its traveller ready. They are ordered by minute, then by event number, then without a
-// call first.
+// The minute in which a stage leaves its traveller ready. The queue gives the lowest minute first; within a minute the lowest
+// event number; and of one event the traveller who has made no call before the one who has.
 #[derive(Clone, Copy, PartialEq, Eq, Debug, Default)]
 pub struct Arrival {
     pub minute: u32,

@@ -1,4 +1,4 @@
-// The board: for each stop and call state the best label that stands ready there.
+// The board: for each stop and call state, which is whether the call was made, the best label that is ready there.
 ghost use Rattle.std.specs.Prelude.{◌≡◌, ◌<◌, length, Some, None, slice_index_or, slice_set};
 ghost use Rattle.steps.specs.Boards.{preferred, stands};
 
@@ -6,14 +6,14 @@ use crate::entry::slot_of;
 use measures::Measure;
 use records::Stop;
 
-// A label that stands ready at a stop, and the event that brought it there.
+// A label that is ready at a stop, and the event that brought it there.
 #[derive(Clone, Copy, PartialEq, Eq, Debug)]
 pub struct Standing<L> {
     pub label: L,
     pub event: u16,
 }
 
-// Who stands ready at a stop in a call state.
+// Who is ready at a stop in a call state.
 pub(crate) fn standing_at<L: Copy>(
     board: &[Option<Standing<L>>],
     stop: Stop,
@@ -24,7 +24,7 @@ pub(crate) fn standing_at<L: Copy>(
     *board.get(slot_of(u16::from(stop), called))?
 }
 
-// Who is to stand ready: the one that comes, unless the one that stands there is no worse.
+// Who is to be on the board: the one that comes, unless the one that is there is no worse.
 fn prefer<M: Measure>(
     stands: Option<Standing<M::Label>>,
     comes: Standing<M::Label>,
@@ -36,7 +36,7 @@ fn prefer<M: Measure>(
         .unwrap_or(comes)
 }
 
-// Puts a label on the board, unless one that stands there is no worse.
+// Puts a label on the board, unless the one that is there is no worse.
 pub(crate) fn place<M: Measure>(
     board: &mut [Option<Standing<M::Label>>],
     at: usize,

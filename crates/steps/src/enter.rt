@@ -1,4 +1,4 @@
-// The best label for an event in a call state, from a fresh start or from who stands ready.
+// The best label for an event in a call state, from a fresh start or from who is ready at its stop.
 ghost use Rattle.std.specs.Prelude.{◌≡◌};
 ghost use Rattle.steps.specs.Entering.{best_before, capped_end, chosen, fresh_label};
 ghost use Rattle.walks.specs.Walks.{is_opening};
@@ -17,7 +17,7 @@ fn fresh_label<M: Measure>(query: Query, event: Event) -> Option<M::Label>
     begins.then(|| M::begin(event.time()))
 }
 
-// The better of a fresh start and of who stands ready, with its origin.
+// The better of a fresh start and of who is ready, with its origin.
 fn choose<M: Measure>(
     fresh: Option<M::Label>,
     ready: Option<Standing<M::Label>>,

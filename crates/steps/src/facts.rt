@@ -12,15 +12,15 @@ use crate::board::Standing;
 use crate::entry::{Entry, Stage};
 use queue::Precedence;
 
-/// Of two arrivals that are not the same one goes before the other: by minute, then by event number,
-/// then without a call first.
+/// Of two arrivals that are not the same one goes before the other: that of the lower minute, else of
+/// the lower event number, else of the traveller who has made no call.
 pub fn orders_are_total()
     ensures arrivals { ⟦<Arrival as Precedence>⟧.before ≡ sooner }
     ensures connected { Connected ⟦<Arrival as Precedence>⟧.before }
 {}
 
 /// Two stages, and two arrivals, compare equal exactly where they are the same; two entries, and two
-/// labels that stand ready, do so where their labels do.
+/// labels that are ready, do so where their labels do.
 pub fn equality_is_identity<L: PartialEq>()
     ensures stages { (a b : Stage) → IsTrue (⟦<Stage as PartialEq>⟧.eq a b) ↔ (a ≡ b) }
     ensures arrivals { (a b : Arrival) → IsTrue (⟦<Arrival as PartialEq>⟧.eq a b) ↔ (a ≡ b) }
@@ -31,7 +31,7 @@ pub fn equality_is_identity<L: PartialEq>()
 {}
 
 /// The clone of a stage, and of an arrival, is the same, and is never refused; that of an entry, and
-/// of a label that stands ready, is so where the clones of their labels are.
+/// of a label that is ready, is so where the clones of their labels are.
 pub fn clone_is_identity<L: Clone>()
     ensures stages { let clones = ⟦<Stage as Clone>⟧ in
         (a b : Stage) → clones.is_infallible a × (clones.is_clone a b → b ≡ a) }

@@ -16,8 +16,8 @@ use measures::Measure;
 use queue::{peek, put, take};
 use records::Event;
 
-// A log of entries, a board of who stands ready, and a queue of awaited arrivals, of whose slots the first `used` are in
-// use. All of it is memory that is handed over, in flat slices: two entries for each event, two slots for each stop.
+// A log of entries, a board of who is ready where, and a queue of awaited arrivals, of whose slots the first `used` are in
+// use. All three are the caller's memory, in flat slices: two entries for each event, two slots for each stop.
 #[derive(Drop)]
 pub struct Work<'a, L> {
     pub log: &'a mut [Option<Entry<L>>],
@@ -119,8 +119,8 @@ impl<L: Copy> Work<'_, L> {
     }
 
     // Takes the event with a number as the next one: what is due by then comes to the board, and the event's entries are
-    // written, if it is in force. Number, event and whether it is in force come apart from the reading, and stand together
-    // only here.
+    // written, if it is in force. Number, event and whether it is in force are three parameters, because the reading has
+    // them one by one.
     fn take_event<M: Measure<Label = L>>(
         &mut self,
         query: Query,
@@ -156,8 +156,8 @@ impl<L: Copy> Work<'_, L> {
     }
 
     // Takes the event with a number as the next one; refuses with 16 where the log has no slots for it, or the queue has
-    // fewer than two that are free. Number, event and whether it is in force come apart from the reading, and stand
-    // together only here.
+    // fewer than two that are free. Number, event and whether it is in force are three parameters, because the reading
+    // has them one by one.
     pub fn step<M: Measure<Label = L>>(
         &mut self,
         query: Query,

@@ -43,7 +43,8 @@ pub fn push_spaced<const N: usize, I: Integer>(
     push(line, digits)
 }
 
-// Copies the text of a line to the front of other bytes, which are handed over, and tells its length; none, with nothing copied, where it is longer.
+// Copies the text of a line to the front of the caller's bytes, and tells its length; none, with nothing copied, where it is
+// longer.
 pub fn copy_out<const N: usize>(line: &ArrayString<N>, out: &mut [u8]) -> Option<usize>
     ensures { CopiedOut line.now.bytes out.old result out.new }
 {

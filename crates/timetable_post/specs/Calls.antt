@@ -1,24 +1,25 @@
 -- The calls of a post with their answers, and what each does to the marks. Assumes nothing.
 -- es is the source's list of events; marks has true for an event that is out of force.
 --     Notice               a withdrawal or a reinstatement
---     notice_of out        the notice after which an event is out of force, or in force
+--     notice_of out        a withdrawal where out is true, else a reinstatement
 --     out_after k          whether an event is out of force after the notice k
---     Asking               what a query was handed: the query, the lengths of the tables, and how its measure scores a
+--     Asking               what a query asks: the query, the lengths of its tables, and how its measure scores a
 --                          list of event numbers
 --     Call                 a call with its answer: a notice about an event; a tally; a query, with the step table
 --                          that it left
---     checks es i          the rules that a query obeys before it is searched for, in the order of testing: those of
---                          the query, then those of the tables
+--     checks es i          the rules that a query i must obey before it is searched for, in the order of testing:
+--                          those of the query, then those of the tables
 --     QueryRight es p i r steps  the answer r to i is right where p says which events are in force:
---                          names, named     it names a journey exactly where the checks are passed and some journey
+--                          names, named_so  it names a journey exactly where the checks are passed and some journey
 --                                           fits; the one named fits, has the score given, and none that fits
 --                                           scores lower
---                          none, no-journey "no journey" is the answer exactly where they are passed and none fits
+--                          none, none_so    "no journey" is the answer exactly where they are passed and none fits
 --                          refused          else the answer is the first broken rule's fault
---     notice_rules n out k e  the rules that a notice about event e obeys where there are n events: e is one of
---                          them; a withdrawal finds it in force, and a reinstatement out of force
+--     finds k out          the notice k has an effect: a withdrawal where out is false, a reinstatement where it is true
+--     notice_rules n out k e  the rules that a notice k about event e must obey where there are n events and out says
+--                          whether e is out of force: e is one of them, and the notice has an effect
 --     noted k r e marks    the marks after a notice: that of e is set or taken away if it was accepted
---     Does es marks c marks'  what a call with its answer does: it is answered by the marks, and leaves marks'
+--     Does es marks c marks'  the call c has the answer that is right for the marks before it, and leaves marks'
 use Rattle.std.specs.Prelude.{◌≡◌, ℕ, Bool, true, false, not, List, [], ◌∷◌, ◌++◌, length, Some, Ok, Err, count_by, Result, nat_lt, slice_index_or, slice_set}
 use Rattle.faults.specs.declared.Fault.{Fault}
 use Rattle.faults.specs.declared.Fault.TheVariants.{NoJourney, NoticeWithoutEffect, UnknownEvent}

@@ -4,17 +4,18 @@
 --     is_withdrawal k      there is a notice k, and after it an event is out of force
 --     is_out h n           event n is out of force: the latest accepted notice about it was a withdrawal
 --     outs es h            how many of the events are out of force
---     Owed es h c          what is owed to the call c after the history h: a notice is accepted, or refused by the
---                          first rule that it breaks; a tally is the number of events out of force; the answer
+--     Owed es h c          the call c has the right answer after the history h: a notice is accepted, or refused by
+--                          the first rule that it breaks; a tally is the number of events out of force; the answer
 --                          to a query is right for the events that are in force
---     Day es h             every call of the history got what it was owed
---     Marked h marks       the marks are those of the events that are out of force by h
---     Explains es h marks  the history got what it was owed, and the marks, of which there are 1,024, are by it
+--     Day es h             every call of the history has the right answer after those before it
+--     Marked h marks       a mark is true exactly where its event is out of force by h
+--     Explains es h marks  every call of h has the right answer (Day), and the marks are those by h, 1,024 of them; the
+--                          empty history explains the marks of a new post
 --     CarriesOn es marks c marks'  whatever history explains marks, that history and then c explain marks'
---     Run es h marks       from a post that was just put up, the calls of h, each doing what it does to the marks
---                          that the one before left, come to marks
+--     Run es h marks       from a new post, with 1,024 marks that are false, the calls of h, each of which does to the
+--                          marks that the one before left what Does says, lead to marks
 --     DepotsDay            over every source's list of events, after every such run, the empty one included: every
---                          call got what it was owed, and an event's mark is set exactly where the latest
+--                          call has the right answer, and an event's mark is true exactly where the latest
 --                          accepted notice about it was a withdrawal
 use Rattle.std.specs.Prelude.{◌≡◌, ℕ, Bool, false, cond, not, List, [], ◌∷◌, length, replicate, Some, None, Ok, Err, count_by, Option, ◌==◌, slice_index_or}
 use Rattle.std.specs.List.{range_with_len}

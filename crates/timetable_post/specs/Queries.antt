@@ -1,16 +1,17 @@
 -- What a query does, whole. Assumes nothing.
--- m is the measure; events and place tell a source's list and place; q is the query; b is what the query is handed and
--- meets, and a is the same as it leaves it.
---     Handed               the post's source and marks, the three work tables and the step table
+-- m is the measure; events and place tell a source's list and place; q is the query; b is what the query works on, before
+-- it, and a the same after it; r is the answer, and steps' the step table after it. S is the type of the source; X, Y and Z
+-- are the types of what log, board and queue hold.
+--     Handed               what a query works on: the post's source and marks, the three work tables and the step table
 --     handed source marks t  a source, marks and what the tables t hold
 --     lengths_of b         how long the tables are
---     asking m es q b      what was asked, as the depot's day has it
---     checks_of m .. b     the rules that the query obeys before it is searched for
---     Answered .. r a      what is answered, by the case: Ok x names a journey, the best one that fits; Err f is the
---                          first broken rule, or that none fits, and then the step table is as found
---     Queried .. b r a     answered: as above; marks: these are as found; refused: where a check is not passed
---                          everything is as found; read: else the source's list is the same, and its place is how
---                          many events were read; does, day: what the depot's day says of it
+--     asking m es q b      what was asked, in the words of Calls: the query, the lengths of the tables, scores by m
+--     checks_of m .. b     the rules that the query must obey before it is searched for
+--     Answered .. r steps'  by the case of r: Ok x names a journey, the best one that fits; Err f is the fault of the
+--                          first broken rule, or says that none fits, and then the step table is unchanged
+--     Queried .. b r a     answered: as above; marks: these are unchanged; refused: where a check is not passed
+--                          everything is unchanged; read: else the source's list is the same, and its place is how
+--                          many events were read; does, day: what Calls (Does) and Days (CarriesOn) say of it
 use Rattle.std.specs.Prelude.{◌≡◌, ℕ, Bool, ◌⊎◌, List, Some, Ok, Err, Option, Result}
 use Rattle.faults.specs.declared.Fault.{Fault}
 use Rattle.faults.specs.declared.Fault.TheVariants.{NoJourney}

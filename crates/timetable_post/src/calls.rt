@@ -14,8 +14,8 @@ use records::MOST_EVENTS;
 use search::{Answer, Carried, Tables};
 use sources::Source;
 
-// A source, and a mark for each event that is out of force. The marks stand beside the source, since the source is its owner's,
-// and events have no marks.
+// A source, and a mark for each event that is out of force. The marks are apart from the source, since events have
+// none, and a source goes back to its owner without them.
 #[derive(Drop)]
 pub struct Post<S: Source + Drop> {
     source: S,

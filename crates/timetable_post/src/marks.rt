@@ -10,7 +10,8 @@ pub(crate) fn all_in_force() -> [bool; MOST_EVENTS]
     [false; MOST_EVENTS]
 }
 
-// How many marks are set. The tally is wanted as a `for` over the marks without an index, a rule of the project.
+// How many marks are set. The loop goes over the marks themselves, so that there is no index that could skip one or run past the
+// last.
 pub(crate) fn count_set(marks: &[bool]) -> usize
     ensures { result ≡ count_by (λ b. b) marks.now }
 {

@@ -1,11 +1,12 @@
 -- A log of best labels, and what follows of it. Assumes nothing.
 -- es, p, q and m are as for walks. A log has, for an event and a call state, a label and its origin, or nothing.
+-- A call state is whether the call was made. `..` stands for the arguments of a definition.
 --     Origin               where a label came from: a fresh start, or an earlier event in a call state
 --     Log L                the log
 --     Passes e c c'        the event e takes a traveller from call state c to c': a ride keeps it, an opening makes the call
 --     Candidate m es p q g i c l o  the label l, from the origin o, can be had at event i with call
 --                          state c: by a fresh start, or from an entry of the log g at an earlier event
---                          from which the traveller is ready for i
+--                          that event i, in force, can follow
 --     BestEntry ..         an entry that is a candidate, and no worse than every candidate
 --     RightAt ..           the log has a best entry for event and call state, or none and there is no candidate
 --     Right m es p q g n   up to event n, each entry of g is a best one, and there is none only where
@@ -18,14 +19,15 @@
 --     EndsRightly ..       the entry at i before n ends as q asks
 --     Lowest ..            no entry that ends rightly has a lower settled score
 --     LogIsGlobal m        a right log covers every walk and spells one for each entry
---     LogGivesBest m       with the events from n on all too late: an entry that ends rightly and has the
---                          lowest settled score of all that do gives the best score of the journeys that
---                          fit, by a journey that tracing spells; and no entry ends rightly exactly where no
---                          journey fits
---     first_late es c      the number of the first event that is later than c, or of events where none is
---     StoppingLosesNothing  every event from there on is later than q's close, and no journey that fits
+--     LogGivesBest m       where q's stops differ, and the events from n on are all too late: an entry that
+--                          ends rightly and has the lowest settled score of all that do gives the best
+--                          score of the journeys that fit, by a journey that tracing spells; and no entry
+--                          ends rightly exactly where no journey fits
+--     first_late es c      the number of the first event that is later than minute c; where none is, how many
+--                          events there are
+--     StoppingLosesNothing  every event from first_late on is later than q's close, and no journey that fits
 --                          goes on to one of them
---     SixGiveBest          so it is with each of the six measures
+--     SixGiveBest          LogGivesBest of each of the six measures
 use Rattle.std.specs.Prelude.{◌≡◌, ℕ, suc, ◌<◌, ◌≤◌, Bool, true, false, cond, List, [], ◌∷◌, ◌++◌, length, Some, None, Option, ◌≢◌, nat_le}
 use Rattle.records.specs.declared.event.Event.{Event}
 use Rattle.records.specs.Events.{Listed, time_of}

@@ -3,19 +3,19 @@
 --     Traveller L          where a traveller is after a walk: the stop, the end of the last event, the
 --                          moment from which it goes on, whether the call was made, and the label
 --     is_opening e         e is an opening
---     outset m e           a traveller who stands where e begins, at its time, with nothing done yet
+--     outset m e           a traveller who is where e begins, at its time, with nothing done yet
 --     moved m e t          the traveller t after the event e
 --     Known es p i         i is the number of an event in force
 --     Starts es p q i      a walk may begin with event i: it is in force, leaves q's first stop, and is
 --                          not before q's window
---     Boards e t           t can take e: it is where t is, not before t is ready, and a call is made once
+--     Boards e t           t can take e: it is where t is, not before t is ready, and, if an opening, t has made no call
 --     Walk m es p q t js   the events js, one after another, make a walk after which the traveller is t
 --     Rightly q t          t ends as q asks: at its second stop, within its window, with the call made if
 --                          one is wanted and not made otherwise
 --     FitsBy m es p q t js  js fits, and t has its label and its end
 --     WalksFit m           the journeys that fit are exactly the walks that end rightly
---     Exchange m           of two walks that can go on with one event, in the same call state, the one
---                          with the no-worse label can take the other's place, and stays no worse
+--     Exchange m           of two walks that can go on with the same event, both or neither with the call made,
+--                          the one with the no-worse label can take the other's place, and stays no worse
 use Rattle.std.specs.Prelude.{◌≡◌, ℕ, ◌<◌, ◌≤◌, Bool, true, false, ◌||◌, List, [], ◌∷◌, ◌++◌, length, ◌≢◌}
 use Rattle.records.specs.declared.event.Event.{Event}
 use Rattle.records.specs.declared.event.Event.TheVariants.{Opening, Ride}

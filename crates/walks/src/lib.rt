@@ -13,7 +13,7 @@ pub fn walks_fit<M: Measure>()
     ensures { WalksFit M.ops }
 {}
 
-// Of two walks that can go on with one event, the no-worse one can take the other's place.
+// Of two walks that can go on with the same event, in the same call state, the no-worse one can take the other's place.
 pub fn walks_exchange<M: Measure>()
     ensures { Exchange M.ops }
 {}

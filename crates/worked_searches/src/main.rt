@@ -27,8 +27,8 @@ fn print_answer(rt: &impl Print, answer: Option<Answer>, steps: &[usize]) -> io:
     println!(rt; "{named:?} {verdict}, steps {count}, reads {reads}")
 }
 
-// Searches the source with every event in force, and prints what is found, under its title. What it is handed has nothing else
-// in common.
+// Searches the source with every event in force, and prints what is found, under its title. The parameters have nothing else in
+// common that would make a struct of them.
 fn print_found<M: Measure>(
     rt: &impl Print,
     title: &str,
@@ -63,7 +63,8 @@ fn print_six(
     print_found::<LeastWaiting>(rt, "c", source, WORKED_QUERY, plain)
 }
 
-// Searches for the earliest arrival within a narrower window. What it is handed has nothing in common but for this program's printing.
+// Searches for the earliest arrival within a narrower window. The parameters have nothing in common but that this program prints
+// them.
 fn print_within(
     rt: &impl Print,
     source: &mut RecordSource,
@@ -98,7 +99,7 @@ fn print_searches(rt: &HostRuntime, bytes: &[u8]) -> io::Result<()> {
     print_within(rt, &mut source, 110, 154, &mut plain)
 }
 
-// The day's records stand in a vector; the tests of the post load them into memory.
+// The day's records are in a vector; the tests of the post load them into memory.
 fn main(rt: HostRuntime) -> io::Result<()> {
     let mut bytes = Vec::new(rt.alloc());
     for event in worked_events() {
