@@ -377,18 +377,18 @@ struct Stage {
     called: bool,
 }
 
-// The best label of an event in a call state, where it came from, and where and when it ends.
+// The best label of an event in a call state, its predecessor, and where and when it ends.
 #[derive(Clone, Copy, Debug)]
 struct Entry {
     label: Label,
-    origin: Option<Stage>,
+    predecessor: Option<Stage>,
     stop: u8,
     end: u32,
 }
 
 // The best label that stands ready at a stop in a call state, and the event that brought it there.
 #[derive(Clone, Copy, Debug)]
-struct Standing {
+struct Incumbent {
     label: Label,
     event: u16,
 }
@@ -415,7 +415,7 @@ impl fmt::Display for Journey {
 // The tables of a search, kept from one query to the next for their memory. Pairs are by call state, the one without a call first.
 struct Search {
     log: Vec<[Option<Entry>; 2]>,
-    board: [[Option<Standing>; 2]; STOPS],
+    board: [[Option<Incumbent>; 2]; STOPS],
     awaited: BinaryHeap<Reverse<(u32, Stage)>>,
 }
 
@@ -471,8 +471,8 @@ impl Search {
                 continue;
             };
             let slot = &mut self.board[usize::from(entry.stop)][usize::from(stage.called)];
-            if slot.is_none_or(|standing| M::key(entry.label) < M::key(standing.label)) {
-                *slot = Some(Standing {
+            if slot.is_none_or(|incumbent| M::key(entry.label) < M::key(incumbent.label)) {
+                *slot = Some(Incumbent {
                     label: entry.label,
                     event: stage.event,
                 });
@@ -491,7 +491,7 @@ impl Search {
             return None;
         }
         let called_before = called && !opening;
-        let standing = self.board[usize::from(event.leaves())][usize::from(called_before)];
+        let incumbent = self.board[usize::from(event.leaves())][usize::from(called_before)];
         let may_begin =
             called == opening && event.leaves() == query.from && query.open <= event.time();
         let fresh = may_begin.then(|| Label {
@@ -499,14 +499,14 @@ impl Search {
             riding: 0,
             rides: 0,
         });
-        let (label, origin) = match (standing, fresh) {
-            (Some(standing), Some(fresh)) if M::key(fresh) < M::key(standing.label) => {
+        let (label, predecessor) = match (incumbent, fresh) {
+            (Some(incumbent), Some(fresh)) if M::key(fresh) < M::key(incumbent.label) => {
                 (fresh, None)
             }
-            (Some(standing), _) => (
-                standing.label,
+            (Some(incumbent), _) => (
+                incumbent.label,
                 Some(Stage {
-                    event: standing.event,
+                    event: incumbent.event,
                     called: called_before,
                 }),
             ),
@@ -523,7 +523,7 @@ impl Search {
         };
         Some(Entry {
             label,
-            origin,
+            predecessor,
             stop: event.reaches(),
             end: event.end(),
         })
@@ -540,7 +540,7 @@ impl Search {
             event,
             called: query.call,
         };
-        let stages = std::iter::successors(Some(last), |stage| self.entry(*stage)?.origin);
+        let stages = std::iter::successors(Some(last), |stage| self.entry(*stage)?.predecessor);
         let mut steps: Vec<usize> = stages.map(|stage| usize::from(stage.event)).collect();
         steps.reverse();
         Some(Journey {

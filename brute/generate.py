@@ -1,5 +1,5 @@
 #!/usr/bin/env python3
-"""Random small days with steps to judge, for brute/lister.py and the program `judging`.
+"""Random small days with steps to judge, for brute/lister.py and the program `trial_judge`.
 
     brute/generate.py [--seed N] [--days N] [--events N]
 

@@ -1,8 +1,8 @@
 #!/usr/bin/env python3
-"""Random small days with queries, and the best scores by trying every journey, for the program `searching`.
+"""Random small days with queries, and the best scores by trying every journey, for the program `trial_search`.
 
-    brute/searches.py [--seed N] [--days N] [--events N]   > crates/searching/stdin
-    brute/searches.py --answer < crates/searching/stdin    > crates/searching/stdout
+    brute/searches.py [--seed N] [--days N] [--events N]   > crates/trial_search/stdin
+    brute/searches.py --answer < crates/trial_search/stdin > crates/trial_search/stdout
 
 The days are dense: three stops and few minutes, so that events repeat, times tie and arrivals meet departures. The
 windows open and close at the days' own minutes or one beside them, some queries ask for a call, which may then fall

@@ -2,7 +2,7 @@
 """Which lines are commands, and where the others stop being one, by regular expressions.
 
     tools/grammar.py < LINES        print an answer for each line: the command's text, or `no 11 4 PLACE`
-    tools/grammar.py --generate     write crates/command_lines/stdin and, with the answers, stdout
+    tools/grammar.py --generate     write crates/trial_commands/stdin and, with the answers, stdout
 
 Written from docs/commands.md. A part of a number, from its first digit on, is a number too, so
 what begins a command is told by leaving out ever more of its end.
@@ -126,7 +126,7 @@ def lines():
 
 
 def generate():
-    folder = pathlib.Path(__file__).resolve().parent.parent / "crates" / "command_lines"
+    folder = pathlib.Path(__file__).resolve().parent.parent / "crates" / "trial_commands"
     asked = list(dict.fromkeys(lines()))
     assert not any(b"\n" in line for line in asked)
     (folder / "stdin").write_bytes(b"".join(line + b"\n" for line in asked))

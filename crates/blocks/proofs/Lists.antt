@@ -1,16 +1,18 @@
 -- The events of records that break no rule are a timetable's.
-use Rattle.std.proofs.Common.{◌≡◌, ℕ, ◌+◌, ◌-◌, ◌<◌, ◌≤◌, true, ◌||◌, List, [], ◌∷◌, ◌++◌, map, length, get_or, take, Some, None, Option, refl, ap, ◌∙◌, subst, arith}
+use Rattle.std.proofs.Common.{◌≡◌, ℕ, ◌+◌, ◌-◌, ◌<◌, ◌≤◌, true, List, [], ◌∷◌, ◌++◌, map, length, get_or, take, Some, None, Option, refl, ap, ◌∙◌, subst, arith}
 use Rattle.std.proofs.ByRecursion.{All-from_get_or, All-get_or, All-map}
 use Rattle.std.proofs.lemmas.List.{get_or-map, get_or_push, length-append, length-map, take_more}
 use Rattle.std.proofs.lemmas.Option.{slice_get-get_or}
 use Rattle.std.specs.List.{AllByRecursion}
-use Rattle.faults.specs.Rules.{Rule, Kept}
-use Rattle.faults.proofs.Rules.{kept_append, kept_parts}
+use Rattle.faults.specs.Rules.{Rule, IsKept}
+use Rattle.faults.specs.declared.Fault.TheVariants.{OutOfOrder}
+use Rattle.faults.proofs.Rules.{kept_append, tests_true}
 use Rattle.records.specs.declared.event.Event.{Event}
-use Rattle.records.specs.Events.{Listed, Within, in_order}
-use Rattle.records.specs.Layout.{event_in, is_opening, is_ride, record_rules, spare, zeros}
-use Rattle.records.proofs.Limits.{limits_anywhere, stops_event_in}
-use Rattle.blocks.specs.Blocks.{follows, last_event, records_rules, rules_after, rules_at}
+use Rattle.records.specs.Events.{IsTimetable, IsWithinLimits, may_precede}
+use Rattle.records.specs.Layout.{event_in, record_rules}
+use Rattle.records.specs.Limits.{most_events}
+use Rattle.records.proofs.Bounds.{limits_anywhere, record_bounds, stops_event_in}
+use Rattle.blocks.specs.Blocks.{may_follow, last_event, records_rules, rules_after, rules_at}
 use Rattle.blocks.specs.Rows.{record_at}
 use Rattle.blocks.proofs.Scans.{in_turn_by_place, kept_at, rules_in_turn}
 
@@ -32,32 +34,30 @@ behind_by_place rs =
     in_turn_by_place rules_after (λ o r. Some (event_in r)) rs (λ i. last_event (take i rs)) (rules_at rs)
     (λ i h. (last_event_more rs i h, refl))
 
-within_record : (p : ℕ) (r : List ℕ) → Kept (record_rules p r) → ((i : ℕ) → i < 16 → get_or r i 0 < 256) → Within (event_in r)
+within_record : (p : ℕ) (r : List ℕ) → IsKept (record_rules p r) → ((i : ℕ) → i < 16 → get_or r i 0 < 256) → IsWithinLimits (event_in r)
 within_record p r k s =
-    let t = kept_parts (is_opening r || is_ride r) _ _ k in
-    let u = kept_parts (zeros (spare r)) _ _ t.1 in
-    (limits_anywhere p 0 (event_in r) u.1, stops_event_in r (s 1 (omega arith)) (s 2 (omega arith)))
+    (limits_anywhere p 0 (event_in r) (record_bounds p r k).within, stops_event_in r (s 1 (omega arith)) (s 2 (omega arith)))
 
-module _ (rs : List (List ℕ)) (kept : Kept (records_rules rs)) where
-  kept_record : (i : ℕ) → i < length rs → Kept (record_rules i (record_at rs i)) × (follows (last_event (take i rs)) (event_in (record_at rs i)) ≡ true)
+module _ (rs : List (List ℕ)) (kept : IsKept (records_rules rs)) where
+  kept_record : (i : ℕ) → i < length rs → IsKept (record_rules i (record_at rs i)) × (may_follow (last_event (take i rs)) (event_in (record_at rs i)) ≡ true)
   kept_record i h =
       let t = kept_append (record_rules i (record_at rs i)) _ (kept_at (rules_at rs) 0 (length rs) i i (omega arith) h kept) in
-      (t.0, (kept_parts (follows (last_event (take i rs)) (event_in (record_at rs i))) _ _ t.1).0)
+      (t.0, (tests_true ((may_follow (last_event (take i rs)) (event_in (record_at rs i)), OutOfOrder i) ∷ []) t.1).0)
 
-  in_order_records : (i : ℕ) (d : Event) → i + 1 < length rs → in_order (get_or (map event_in rs) i d) (get_or (map event_in rs) (i + 1) d) ≡ true
+  in_order_records : (i : ℕ) (d : Event) → i + 1 < length rs → may_precede (get_or (map event_in rs) i d) (get_or (map event_in rs) (i + 1) d) ≡ true
   in_order_records i d h =
       let h' : i < length rs = omega arith in
       rw (get_or-map event_in rs i [] d h', get_or-map event_in rs (i + 1) [] d h)
-      (subst (λ o. follows o (event_in (record_at rs (i + 1))) ≡ true) (last_event_more rs i h') (kept_record (i + 1) h).1)
+      (subst (λ o. may_follow o (event_in (record_at rs (i + 1))) ≡ true) (last_event_more rs i h') (kept_record (i + 1) h).1)
 
-  pub listed_records : length rs ≤ 1024 → AllByRecursion (λ r. (i : ℕ) → i < 16 → get_or r i 0 < 256) rs → Listed (map event_in rs)
+  pub listed_records : length rs ≤ most_events → AllByRecursion (λ r. (i : ℕ) → i < 16 → get_or r i 0 < 256) rs → IsTimetable (map event_in rs)
   listed_records few small =
       let l = length-map rs event_in in
       record {
         few = omega arith;
         within =
-            All-map Within event_in rs
-            (All-from_get_or (λ r. Within (event_in r)) rs []
+            All-map IsWithinLimits event_in rs
+            (All-from_get_or (λ r. IsWithinLimits (event_in r)) rs []
             (λ i h. within_record i (record_at rs i) (kept_record i h).0 (All-get_or (λ r. (j : ℕ) → j < 16 → get_or r j 0 < 256) rs i [] h small)));
         ordered = λ i d h. in_order_records i d (omega arith);
       }

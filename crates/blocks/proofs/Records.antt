@@ -1,16 +1,16 @@
 -- The records of bytes.
-use Rattle.std.proofs.Common.{◌≡◌, ℕ, zero, suc, ◌+◌, ◌*◌, ◌%◌, ◌<◌, ◌≤◌, eqb, leb, List, [], ◌∷◌, ◌++◌, length, get_or, take, drop, Ok, sym, refl, ap, ap₂, ◌∙◌, arith}
+use Rattle.std.proofs.Common.{◌≡◌, ℕ, zero, suc, ◌+◌, ◌*◌, ◌%◌, ◌<◌, ◌≤◌, List, [], ◌∷◌, ◌++◌, length, get_or, take, drop, Ok, sym, refl, ap, ap₂, ◌∙◌, arith}
 use Rattle.std.proofs.lemmas.List.{drop-append-le, get_or-drop, get_or-take, length-drop, take-append-drop, take-append-le, take_all}
 use Rattle.std.specs.List.{AllByRecursion, concat}
 use Rattle.std.specs.Simd.{first_chunks}
 use Rattle.std.proofs.lemmas.Bool.{eqb-true, leb-true}
-use Rattle.faults.specs.Rules.{Kept, judged}
-use Rattle.faults.proofs.Rules.{kept_from_ok, kept_parts, value_from_ok}
+use Rattle.faults.specs.Rules.{IsKept, ruling}
+use Rattle.faults.proofs.Rules.{kept_from_ok, tests_true, value_from_ok}
 use Rattle.blocks.specs.Rows.{count, records_of, size_rules}
 
 -- what is known of bytes that are whole records only, and at most so many, and of these records
 pub record Sized (most : ℕ) (bs : List ℕ) (rs : List (List ℕ)) : Type 0 where
-  pub kept : Kept (size_rules most bs)
+  pub kept : IsKept (size_rules most bs)
   pub whole : length bs ≡ count bs * 16
   pub few : length rs ≤ most
   pub records : rs ≡ records_of bs
@@ -19,11 +19,11 @@ pub length-first_chunks : (k : ℕ) (bs : List ℕ) → length (first_chunks 16 
 length-first_chunks zero bs = refl
 length-first_chunks (suc k) bs = ap suc (length-first_chunks k (drop 16 bs))
 
-pub sized : (most : ℕ) (bs : List ℕ) (rs : List (List ℕ)) → Ok rs ≡ judged (size_rules most bs) (records_of bs) → Sized most bs rs
+pub sized : (most : ℕ) (bs : List ℕ) (rs : List (List ℕ)) → Ok rs ≡ ruling (size_rules most bs) (records_of bs) → Sized most bs rs
 sized most bs rs h =
-    let all : Kept (size_rules most bs) = kept_from_ok _ _ _ (sym h) in
-    let k = kept_parts (eqb (length bs % 16) 0) _ _ all in
-    let few = leb-true (count bs) most (kept_parts (leb (count bs) most) _ _ k.1).0 in
+    let all : IsKept (size_rules most bs) = kept_from_ok _ _ _ (sym h) in
+    let k = tests_true (size_rules most bs) all in
+    let few = leb-true (count bs) most k.1.0 in
     let e : rs ≡ records_of bs = sym (value_from_ok _ _ _ (sym h)) in
     record {
       kept = all;

@@ -1,4 +1,4 @@
-// What the library's traits mean at a block.
+//! What the library's traits mean at a block.
 ghost use Rattle.std.specs.Prelude.{◌≡◌};
 ghost use Rattle.blocks.specs.declared.block.Block.{Block};
 

@@ -1,4 +1,4 @@
-// A day's records in a row: opening them as a block, and filling memory with them.
+//! A day's records in a row: opening them as a block, and filling memory with them.
 #![tactic(auto)]
 
 mod block;

@@ -1,12 +1,12 @@
-// Tests of records, blocks and loads: tables of damage, each with the fault that it meets.
+//! Tests of records, blocks and loads: tables of damage, each with the fault that it meets.
 #![tactic(auto)]
 
 use blocks::{Block, Load};
 use faults::Report;
 use records::{Event, read, write};
 
-// A ride 1-2 100+20, an opening at 2, minute 125, and a ride 2-3 125+30. The tests of sources have the same bytes: data of a test that
-// is read by itself.
+// A ride 1-2 100+20, an opening at 2, minute 125, and a ride 2-3 125+30. The tests of sources have the same bytes: data of a
+// test that is read by itself.
 const GOOD: [u8; 48] = [
     2, 1, 2, 0, 0, 0, 0, 100, 0, 20, 0, 0, 0, 0, 0, 0, //
     1, 2, 0, 0, 0, 0, 0, 125, 0, 0, 0, 0, 0, 0, 0, 0, //
@@ -14,12 +14,12 @@ const GOOD: [u8; 48] = [
 ];
 
 // How many events the bytes have as a block, or what opening them meets; beside the like for lines, by calls of other names.
-fn opened(bytes: &[u8]) -> Result<usize, Report> {
+fn events_in(bytes: &[u8]) -> Result<usize, Report> {
     Ok(Block::open(bytes)?.len())
 }
 
 // What adding the bytes to a load meets.
-fn added(load: &mut Load, bytes: &[u8]) -> Result<(), Report> {
+fn add(load: &mut Load, bytes: &[u8]) -> Result<(), Report> {
     Ok(load.add(bytes)?)
 }
 
@@ -71,19 +71,19 @@ mod tests {
             assert!(rt; at < 48 && also_at < 48);
             bytes[at] = byte;
             bytes[also_at] = also_byte;
-            assert_eq!(rt; opened(&bytes), meets);
+            assert_eq!(rt; events_in(&bytes), meets);
         }
     }
 
     #[test]
     fn lengths(rt: HostRuntime) {
         let bytes = [0u8; 16_401];
-        assert_eq!(rt; opened(&bytes[0..0]), Ok(0));
-        assert_eq!(rt; opened(&bytes[0..15]), Err(Report::new(1, 1, 0)));
-        assert_eq!(rt; opened(&bytes[0..17]), Err(Report::new(1, 1, 1)));
-        assert_eq!(rt; opened(&bytes[0..16_384]), Err(Report::new(3, 2, 0)));
-        assert_eq!(rt; opened(&bytes[0..16_400]), Err(Report::new(2, 1, 1_024)));
-        assert_eq!(rt; opened(&bytes), Err(Report::new(1, 1, 1_025)));
+        assert_eq!(rt; events_in(&bytes[0..0]), Ok(0));
+        assert_eq!(rt; events_in(&bytes[0..15]), Err(Report::new(1, 1, 0)));
+        assert_eq!(rt; events_in(&bytes[0..17]), Err(Report::new(1, 1, 1)));
+        assert_eq!(rt; events_in(&bytes[0..16_384]), Err(Report::new(3, 2, 0)));
+        assert_eq!(rt; events_in(&bytes[0..16_400]), Err(Report::new(2, 1, 1_024)));
+        assert_eq!(rt; events_in(&bytes), Err(Report::new(1, 1, 1_025)));
     }
 
     #[test]
@@ -91,14 +91,11 @@ mod tests {
         let mut memory = [0u8; 16_400];
         let mut load = Load::new(&mut memory);
         for _ in 0..1_024 {
-            assert_eq!(rt; added(&mut load, &GOOD[0..16]), Ok(()));
+            assert_eq!(rt; add(&mut load, &GOOD[0..16]), Ok(()));
         }
-        assert_eq!(rt;
-            added(&mut load, &GOOD[0..16]),
-            Err(Report::new(2, 1, 1_024))
-        );
+        assert_eq!(rt; add(&mut load, &GOOD[0..16]), Err(Report::new(2, 1, 1_024)));
         assert_eq!(rt; load.finish(), 1_024);
-        assert_eq!(rt; opened(&memory[0..16_384]), Ok(1_024));
+        assert_eq!(rt; events_in(&memory[0..16_384]), Ok(1_024));
     }
 
     #[test]
@@ -106,17 +103,17 @@ mod tests {
         let mut memory = [170u8; 40];
         let line = [3, 1, 2, 0, 0, 0, 0, 100, 0, 20, 0, 5, 0, 9, 0, 0];
         let mut load = Load::new(&mut memory);
-        assert_eq!(rt; added(&mut load, &GOOD[0..15]), Err(Report::new(1, 1, 0)));
-        assert_eq!(rt; added(&mut load, &line), Err(Report::new(3, 2, 0)));
-        assert_eq!(rt; added(&mut load, &GOOD[16..32]), Ok(()));
-        assert_eq!(rt; added(&mut load, &GOOD[0..16]), Err(Report::new(9, 3, 1)));
-        assert_eq!(rt; added(&mut load, &GOOD[32..48]), Ok(()));
-        assert_eq!(rt; added(&mut load, &GOOD[16..32]), Err(Report::new(2, 1, 2)));
-        assert_eq!(rt; added(&mut load, &GOOD[0..17]), Err(Report::new(1, 1, 2)));
+        assert_eq!(rt; add(&mut load, &GOOD[0..15]), Err(Report::new(1, 1, 0)));
+        assert_eq!(rt; add(&mut load, &line), Err(Report::new(3, 2, 0)));
+        assert_eq!(rt; add(&mut load, &GOOD[16..32]), Ok(()));
+        assert_eq!(rt; add(&mut load, &GOOD[0..16]), Err(Report::new(9, 3, 1)));
+        assert_eq!(rt; add(&mut load, &GOOD[32..48]), Ok(()));
+        assert_eq!(rt; add(&mut load, &GOOD[16..32]), Err(Report::new(2, 1, 2)));
+        assert_eq!(rt; add(&mut load, &GOOD[0..17]), Err(Report::new(1, 1, 2)));
         assert_eq!(rt; load.finish(), 2);
         assert_eq!(rt; &memory[0..32], &GOOD[16..48]);
         assert_eq!(rt; &memory[32..40], [170u8; 8].as_slice());
-        assert_eq!(rt; opened(&memory[0..32]), Ok(2));
+        assert_eq!(rt; events_in(&memory[0..32]), Ok(2));
     }
 
     #[test]
@@ -133,20 +130,8 @@ mod tests {
             (Event::ride(0, 1, 0, 0), Err(Report::new(6, 2, 0))),
             (Event::ride(7, 7, 0, 0), Err(Report::new(5, 2, 0))),
             (Event::ride(0, 1, 999_999, 0), Err(Report::new(6, 2, 0))),
-            (
-                Event::Opening {
-                    stop: 255,
-                    minute: 999_999,
-                },
-                Ok(()),
-            ),
-            (
-                Event::Opening {
-                    stop: 0,
-                    minute: 1_000_000,
-                },
-                Err(Report::new(8, 2, 0)),
-            ),
+            (Event::opening(255, 999_999), Ok(())),
+            (Event::opening(0, 1_000_000), Err(Report::new(8, 2, 0))),
         ];
         for (event, meets) in table {
             assert_eq!(rt; rewritten(event), meets.map(|()| event));

@@ -5,9 +5,9 @@ use Rattle.std.proofs.lemmas.Grind.{flat_map-append}
 use Rattle.std.proofs.lemmas.List.{append_assoc, append-nil, length-append, nil_from_length}
 use Rattle.std.specs.List.{flat_map}
 use Rattle.faults.specs.declared.Fault.{Fault}
-use Rattle.faults.specs.Rules.{first_broken}
-use Rattle.blocks.specs.Loads.{Filled, Filling, add_rules}
-use Rattle.byte_calls.specs.Loadings.{Fills, Stopped}
+use Rattle.faults.specs.Rules.{first_fault}
+use Rattle.blocks.specs.Loads.{IsFilledWith, Filling, add_rules}
+use Rattle.byte_calls.specs.Loadings.{Fills, IsStopped}
 
 -- some records are held, and so many bytes are left
 pub record Underway (o bs left m : List ℕ) (n : ℕ) : Type 0 where
@@ -33,7 +33,7 @@ underway_on o bs left r rest m m' n n' e u f =
     }
 
 -- no record more
-pub underway_ends : (o bs left m m' : List ℕ) (n k : ℕ) → length left ≡ 0 → (u : Underway o bs left m n) → Filled o u.held m' k → (rs : List (List ℕ)) × (bs ≡ flat_map (λ r. r) rs) × Filled o rs m' k
+pub underway_ends : (o bs left m m' : List ℕ) (n k : ℕ) → length left ≡ 0 → (u : Underway o bs left m n) → IsFilledWith o u.held m' k → (rs : List (List ℕ)) × (bs ≡ flat_map (λ r. r) rs) × IsFilledWith o rs m' k
 underway_ends o bs left m m' n k e u f =
     (u.held, u.parts ∙ ap (λ x. flat_map (λ r. r) u.held ++ x) (nil_from_length left e) ∙ append-nil (flat_map (λ r. r) u.held), f)
 
@@ -48,7 +48,7 @@ cut_at left r rest e cut = by_test (leb 16 (length left)) refl
         inr (omega (arith, cut, short), nil_from_length rest (omega (arith, cut, short, ap (λ x. length x) e, length-append r rest)))
 
 -- a record that is refused
-pub underway_stops : (o bs left r rest m m' : List ℕ) (n : ℕ) (f : Fault) → left ≡ r ++ rest → length r ≡ min 16 (length left) → 0 < length left → m' ≡ m → Underway o bs left m n → first_broken (add_rules m n r) ≡ Some f → Stopped o bs f m'
+pub underway_stops : (o bs left r rest m m' : List ℕ) (n : ℕ) (f : Fault) → left ≡ r ++ rest → length r ≡ min 16 (length left) → 0 < length left → m' ≡ m → Underway o bs left m n → first_fault (add_rules m n r) ≡ Some f → IsStopped o bs f m'
 underway_stops o bs left r rest m m' n f e cut some same u broken =
     record {
       held = u.held;
@@ -59,7 +59,7 @@ underway_stops o bs left r rest m m' n f e cut some same u broken =
       some = omega (arith, cut, some);
       cut = cut_at left r rest e cut;
       filling = subst (λ x. Filling o u.held x n) (sym same) u.filling;
-      broken = subst (λ x. first_broken (add_rules x n r) ≡ Some f) (sym same) broken;
+      broken = subst (λ x. first_fault (add_rules x n r) ≡ Some f) (sym same) broken;
     }
 
 -- the same memory, by another name

@@ -1,31 +1,35 @@
-// Lines answered over a day, from bytes to bytes.
+//! Lines answered over a day, from bytes to bytes.
 ghost use Rattle.std.specs.Prelude.{◌≡◌, ℕ, ◌≤◌, List, ◌++◌, length, Ok, IfSome, MatchOption};
-ghost use Rattle.blocks.specs.Blocks.{opening};
-ghost use Rattle.dialogue.specs.Conversations.{FirstLine};
-ghost use Rattle.dialogue.specs.Obeying.{desk};
+ghost use Rattle.records.specs.Limits.{longest_text};
+ghost use Rattle.blocks.specs.Blocks.{events_or_fault};
+ghost use Rattle.dialogue.specs.Conversations.{IsFirstLine};
+ghost use Rattle.dialogue.specs.Obeying.{session};
 ghost use Rattle.dialogue.specs.Tables.{SamePostTables};
-ghost use Rattle.byte_calls.specs.Conversations.{Answering, Answers, Converses, Delivered, Printed, Says};
+ghost use Rattle.texts.specs.Pushing.{CopiesOut};
+ghost use Rattle.byte_calls.specs.Conversations.{AnswersBehind, Answers, Converses, IsPrinted, Says};
 
 use dialogue::{PostTables, respond};
 use memchr::memchr;
 use records::MOST_EVENTS;
 use replies::{LONGEST_LINE, write};
+use scans::Arrival;
 use search::BOARD_SLOTS;
 use sources::{RecordSource, Source};
-use steps::Arrival;
 use timetable_post::Post;
 
-// The most bytes of a text: what is said is put together in memory of this length, so that nothing is written where it does not fit.
+/// The most bytes of a text: what is said is put together in memory of this length, so that nothing is written where it does
+/// not fit.
 pub const LONGEST_TEXT: usize = 65_536;
 
 // How many slots a log and a queue have: two for each event.
-const SLOTS: usize = 2_048;
+pub(crate) const SLOTS: usize = MOST_EVENTS * 2;
 
 // The first line of a text, without the newline at its end, and the text behind it; none where the text is empty. Where there is
 // no newline, all of the text is the line.
 #[tactic(auto, using(crate::proofs::Lines::line_cut, crate::proofs::Lines::line_last))]
 fn first_line(text: &[u8]) -> Option<(&[u8], &[u8])>
-    ensures { MatchOption result (length text.now ≡ 0) (λ parts. FirstLine text.now parts.0.now parts.1.now) }
+    ensures { MatchOption result (length text.now ≡ 0)
+        (λ parts. IsFirstLine text.now parts.0.now parts.1.now) }
 {
     if text.is_empty() {
         return None;
@@ -41,8 +45,8 @@ fn first_line(text: &[u8]) -> Option<(&[u8], &[u8])>
 fn append(text: &mut [u8], so_far: Option<usize>, bytes: &[u8]) -> Option<usize>
     requires { IfSome so_far (λ n. n ≤ length text.old) }
     ensures printed { (t : List ℕ)
-        → Printed so_far t text.old
-        → Printed result (t ++ bytes.now) text.new }
+        → IsPrinted so_far t text.old
+        → IsPrinted result (t ++ bytes.now) text.new }
     ensures within { IfSome result (λ n. n ≤ length text.new) }
     ensures long { length text.new ≡ length text.old }
 {
@@ -55,8 +59,8 @@ fn append(text: &mut [u8], so_far: Option<usize>, bytes: &[u8]) -> Option<usize>
     Some(end)
 }
 
-// Answers a line behind what a text's front has so far; none where there is no room for the reply's line, or was none for those before.
-// The memory for the reply is lent, so that it is not made anew for each line.
+// Answers a line behind what a text's front has so far; none where there is no room for the reply's line, or was none for those
+// before. The memory for the reply is lent, so that it is not made anew for each line.
 fn answer_behind<S: Source + Drop>(
     post: &mut Post<S>,
     line: &[u8],
@@ -66,9 +70,9 @@ fn answer_behind<S: Source + Drop>(
     so_far: Option<usize>,
 ) -> Option<usize>
     requires { IfSome so_far (λ n. n ≤ length text.old) }
-    ensures answering { let b = desk post.old.source post.old.marks tables.old in
-        let a = desk post.new.source post.new.marks tables.new in
-        Answering S.events S.place b line.now so_far text.old a result text.new }
+    ensures answering { let b = session post.old tables.old in
+        let a = session post.new tables.new in
+        AnswersBehind b line.now so_far text.old a result text.new }
     ensures within { IfSome result (λ n. n ≤ length text.new) }
     ensures long { length text.new ≡ length text.old }
     ensures same { SamePostTables tables.old tables.new }
@@ -85,9 +89,9 @@ fn converse<S: Source + Drop>(
     tables: &mut PostTables<'_>,
     text: &mut [u8],
 ) -> Option<usize>
-    ensures converses { let b = desk post.old.source post.old.marks tables.old in
-        let a = desk post.new.source post.new.marks tables.new in
-        Converses S.events S.place b lines.now result text.new a }
+    ensures converses { let b = session post.old tables.old in
+        let a = session post.new tables.new in
+        Converses b lines.now result text.new a }
     ensures within { IfSome result (λ n. n ≤ length text.new) }
     ensures long { length text.new ≡ length text.old }
 {
@@ -106,7 +110,7 @@ fn converse<S: Source + Drop>(
 fn converse_over(source: RecordSource, lines: &[u8], text: &mut [u8]) -> Option<usize>
     requires { ⟦<RecordSource as Source>⟧.place source ≡ 0 }
     ensures converses { let records = ⟦<RecordSource as Source>⟧ in
-        Says records.events records.place (Ok (records.events source)) lines.now result text.new }
+        Says (Ok (records.events source)) lines.now result text.new }
     ensures within { IfSome result (λ n. n ≤ length text.new) }
     ensures long { length text.new ≡ length text.old }
 {
@@ -131,9 +135,8 @@ fn converse_over(source: RecordSource, lines: &[u8], text: &mut [u8]) -> Option<
 
 // Says to the lines what a new post over the day's events says, or, where the day's bytes are no block, the line of its fault.
 fn say(day: &[u8], lines: &[u8], text: &mut [u8]) -> Option<usize>
-    requires { length text.old ≡ 65536 }
-    ensures said { let records = ⟦<RecordSource as Source>⟧ in
-        Says records.events records.place (opening day.now) lines.now result text.new }
+    requires { length text.old ≡ longest_text }
+    ensures said { Says (events_or_fault day.now) lines.now result text.new }
     ensures long { length text.new ≡ length text.old }
 {
     match RecordSource::open(day) {
@@ -145,7 +148,8 @@ fn say(day: &[u8], lines: &[u8], text: &mut [u8]) -> Option<usize>
 // Copies what was said, so many bytes at the front of a text, to the front of `out`; none, with nothing copied, where it did not
 // fit the text, or does not fit there.
 fn deliver(text: &[u8], said: Option<usize>, out: &mut [u8]) -> Option<usize>
-    ensures { (t : List ℕ) → Printed said t text.now → Delivered (length text.now) t out.old result out.new }
+    ensures { (t : List ℕ) → IsPrinted said t text.now
+        → CopiesOut (length text.now) t out.old result out.new }
 {
     let said = text.get(..said?)?;
     if said.len() > out.len() {
@@ -155,11 +159,11 @@ fn deliver(text: &[u8], said: Option<usize>, out: &mut [u8]) -> Option<usize>
     Some(said.len())
 }
 
-// Answers lines over a day, whose bytes are records, as a post with a memory of its own does, and writes what is printed to the front
-// of `out`; tells how many bytes that is, or none, with nothing written, where it is longer than `out` or than the longest text.
+/// Answers lines over a day, whose bytes are records, as a post with a memory of its own does, and writes what is printed to
+/// the front of `out`; tells how many bytes that is, or none, with nothing written, where it is longer than `out` or than the
+/// longest text.
 pub fn answer_lines(day: &[u8], lines: &[u8], out: &mut [u8]) -> Option<usize>
-    ensures { let records = ⟦<RecordSource as Source>⟧ in
-        Answers records.events records.place day.now lines.now out.old result out.new }
+    ensures { Answers day.now lines.now out.old result out.new }
 {
     let mut text = [0; LONGEST_TEXT];
     let length = say(day, lines, &mut text);

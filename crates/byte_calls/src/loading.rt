@@ -1,8 +1,9 @@
-// Records loaded into memory, from bytes to bytes.
+//! Records loaded into memory, from bytes to bytes.
 ghost use Rattle.byte_calls.specs.Loadings.{Fills, Loads};
 
 use blocks::{Load, RECORD_BYTES};
 use faults::Fault;
+use records::MOST_EVENTS;
 
 // Adds the records that the bytes are, one after another, to memory that holds none, until one is refused. What is left behind
 // the whole records counts as one more, which is too short.
@@ -17,10 +18,12 @@ fn fill(memory: &mut [u8], records: &[u8]) -> Result<usize, Fault>
 }
 
 // The most bytes that a load fills.
-const LONGEST_LOAD: usize = 16_384;
+const LONGEST_LOAD: usize = MOST_EVENTS * RECORD_BYTES;
 
-// Loads the records that the bytes are into memory, from its front on, and tells how many there are; refuses with the first rule
-// that one of them breaks, and then the memory has its old bytes again, from a copy of the part that a load may fill.
+/// Loads the records that the bytes are into memory, from its front on, and tells how many there are.
+///
+/// # Errors
+/// The first rule that one of them breaks; then the memory has its old bytes again, from a copy of the part that a load may fill.
 pub fn load_records(memory: &mut [u8], records: &[u8]) -> Result<usize, Fault>
     ensures { Loads memory.old records.now result memory.new }
 {

@@ -9,6 +9,7 @@ use Rattle.std.proofs.lemmas.Str.{digit_value_digit}
 use Rattle.std.specs.Str.Parse.{AllDigits, digits_value_after}
 use Rattle.std.specs.Int.{IsInRange}
 use Rattle.std.specs.Char.{digit_value}
+use Rattle.records.specs.Limits.{most_number}
 
 abbrev pub Ended : List ℕ → Type 0
 Ended [] = Unit {0}
@@ -96,11 +97,11 @@ module _ (m n : ℕ) (small : m < 2 ^ 64) (small' : n < 2 ^ 64) where
       ⊎_elim (λ p. p) (λ p. absurd (omega (arith, p.0))) (number_next xs ys b h e)
 
 -- a number that a text ends with is not followed by a space
-pub no_space_behind : (m n : ℕ) (bs : List ℕ) → m ≤ 999999 → n ≤ 999999 → decimal m ++ (32 ∷ bs) ≡ decimal n → ⊥
+pub no_space_behind : (m n : ℕ) (bs : List ℕ) → m ≤ most_number → n ≤ most_number → decimal m ++ (32 ∷ bs) ≡ decimal n → ⊥
 no_space_behind m n bs h k e = omega (arith, ap length (number_ends m n (omega arith) (omega arith) (32 ∷ bs) refl e).1)
 
 -- a further digit of a number
-pub decimal_more : (n d : ℕ) → 0 < n → n ≤ 999999 → d < 10 → decimal (n * 10 + d) ≡ decimal n ++ ((48 + d) ∷ [])
+pub decimal_more : (n d : ℕ) → 0 < n → n ≤ most_number → d < 10 → decimal (n * 10 + d) ≡ decimal n ++ ((48 + d) ∷ [])
 decimal_more n d some small less =
     let m : ℕ = n * 10 + d in
     let front : m / 10 ≡ n = omega arith in

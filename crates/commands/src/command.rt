@@ -1,22 +1,16 @@
-// What a post can be told to do.
+//! What a post can be told to do.
 use journeys::Query;
+use measures::Criterion;
 
-// By which measure journeys are compared; their letters are e, l, f, s, n and c, in this order.
-#[derive(Clone, Copy, PartialEq, Eq, Debug)]
-pub enum Criterion {
-    EarliestArrival,
-    LatestDeparture,
-    Fastest,
-    LeastRiding,
-    FewestRides,
-    LeastWaiting,
-}
-
-// Take an event out of force or put it back, count the events out of force, or find the best journey.
+/// What a line can tell a post to do.
 #[derive(Clone, Copy, PartialEq, Eq, Debug)]
 pub enum Command {
+    /// Take an event out of force.
     Withdraw { event: u32 },
+    /// Put an event in force again.
     Reinstate { event: u32 },
+    /// Count the events out of force.
     Tally,
+    /// Find the best journey by a criterion.
     Find { criterion: Criterion, query: Query },
 }

@@ -1,20 +1,23 @@
-// What the library's traits mean at a command.
+//! What the library's traits mean at a command.
 ghost use Rattle.std.specs.Prelude.{◌≡◌, IsTrue, ◌↔◌};
+ghost use Rattle.records.specs.Limits.{most_number};
 ghost use Rattle.commands.specs.declared.command.Command.{Command};
-ghost use Rattle.commands.specs.declared.command.Criterion.{Criterion};
 
-use crate::command::{Command, Criterion};
+use crate::command::Command;
+use crate::reader::MOST_NUMBER;
 
-/// Two criteria, and two commands, compare equal exactly where they are the same.
-pub fn equality_is_identity()
-    ensures criteria { (a b : Criterion) → IsTrue (⟦<Criterion as PartialEq>⟧.eq a b) ↔ (a ≡ b) }
-    ensures commands { (a b : Command) → IsTrue (⟦<Command as PartialEq>⟧.eq a b) ↔ (a ≡ b) }
+/// The highest number of a command is the number that promises speak of.
+pub fn limits_are_defined()
+    ensures number { MOST_NUMBER ≡ most_number }
 {}
 
-/// The clone of a criterion, and of a command, is the same, and is never refused.
+/// Two commands compare equal exactly where they are the same.
+pub fn equality_is_identity()
+    ensures { (a b : Command) → IsTrue (⟦<Command as PartialEq>⟧.eq a b) ↔ (a ≡ b) }
+{}
+
+/// The clone of a command is the same, and is never refused.
 pub fn clone_is_identity()
-    ensures criteria { let clones = ⟦<Criterion as Clone>⟧ in
-        (a b : Criterion) → clones.is_infallible a × (clones.is_clone a b → b ≡ a) }
-    ensures commands { let clones = ⟦<Command as Clone>⟧ in
+    ensures { let clones = ⟦<Command as Clone>⟧ in
         (a b : Command) → clones.is_infallible a × (clones.is_clone a b → b ≡ a) }
 {}

@@ -1,4 +1,4 @@
-// A line of bytes as a command, and a command as a line of bytes.
+//! A line of bytes as a command, and a command as a line of bytes.
 #![tactic(auto)]
 
 mod command;
@@ -6,7 +6,7 @@ mod facts;
 mod reader;
 mod writer;
 
-pub use command::{Command, Criterion};
-pub use facts::{clone_is_identity, equality_is_identity};
+pub use command::Command;
+pub use facts::{clone_is_identity, equality_is_identity, limits_are_defined};
 pub use reader::parse;
 pub use writer::{LONGEST_TEXT, write};

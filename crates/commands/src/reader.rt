@@ -1,19 +1,17 @@
-// A line read byte by byte.
+//! A line read byte by byte.
 ghost use Rattle.std.specs.Prelude.{◌≡◌, ◌&&◌, Ok, nat_le, nat_lt};
 ghost use Rattle.std.specs.Int.{IsInRange};
-ghost use Rattle.commands.specs.Grammar.{Answered, OneCommand, ShortTexts, Spells};
-ghost use Rattle.commands.specs.Machine.{Bounded, Finished, Moved, most};
+ghost use Rattle.commands.specs.Grammar.{IsAnswered, OneCommand, ShortTexts, Spells};
+ghost use Rattle.commands.specs.Machine.{IsBounded, Finishes, Moves, limit};
 
-use crate::command::{Command, Criterion};
+use crate::command::Command;
 use faults::Fault;
 use journeys::Query;
-use records::Stop;
+use measures::Criterion;
+use records::{LAST_STOP, Stop};
 
-// The most that a number of six digits can be.
+// The highest number that a command can have: it has six digits.
 pub(crate) const MOST_NUMBER: u32 = 999_999;
-
-// The most that a stop's number can be.
-const MOST_STOP: u32 = 255;
 
 // A number of a command, with what was read before it.
 #[derive(Clone, Copy)]
@@ -62,10 +60,10 @@ enum State {
 
 // The most that a number may be.
 fn limit(field: Field) -> u32
-    ensures { result ≡ most field }
+    ensures { result ≡ limit field }
 {
     match field {
-        Field::From { .. } | Field::To { .. } => MOST_STOP,
+        Field::From { .. } | Field::To { .. } => LAST_STOP,
         _ => MOST_NUMBER,
     }
 }
@@ -74,16 +72,16 @@ fn limit(field: Field) -> u32
 // 0, and no number is above its limit. This and the next two functions take `field` and `value` as two parameters, although
 // `State::Within` holds both, because one case of an enum can't be the type of a parameter.
 fn may_go_on(field: Field, value: u32, longer: u32) -> bool
-    ensures { result ≡ (nat_lt 0 value && nat_le longer (most field)) }
+    ensures { result ≡ (nat_lt 0 value && nat_le longer (limit field)) }
 {
     value > 0 && longer <= limit(field)
 }
 
 // The state behind a further digit of a number, none where the number may not go on with it.
 fn further_digit(field: Field, value: u32, byte: u8) -> Option<State>
-    requires bounded { Bounded (State.Within field value) }
+    requires bounded { IsBounded (State.Within field value) }
     requires digit { IsInRange 48 57 byte }
-    ensures { Moved (State.Within field value) byte result }
+    ensures { Moves (State.Within field value) byte result }
 {
     let longer = value * 10 + u32::from(byte - b'0');
     if !may_go_on(field, value, longer) {
@@ -97,8 +95,8 @@ fn further_digit(field: Field, value: u32, byte: u8) -> Option<State>
 
 // The state behind the space after a number, none where the command ends with it.
 fn space_after(field: Field, value: u32) -> Option<State>
-    requires { Bounded (State.Within field value) }
-    ensures { Moved (State.Within field value) 32 result }
+    requires { IsBounded (State.Within field value) }
+    ensures { Moves (State.Within field value) 32 result }
 {
     let next = match field {
         Field::Withdrawn | Field::Reinstated => return None,
@@ -149,9 +147,9 @@ fn space_after(field: Field, value: u32) -> Option<State>
 // The state behind one byte more, none where no command goes on with it. Every byte is matched together with the state that it
 // meets, the letters of the measures too, so that what may follow what is read off one table: a `TryFrom` of a letter would be a
 // second one.
-fn step(state: State, byte: u8) -> Option<State>
-    requires { Bounded state }
-    ensures { Moved state byte result }
+fn after_byte(state: State, byte: u8) -> Option<State>
+    requires { IsBounded state }
+    ensures { Moves state byte result }
 {
     match (state, char::from(byte)) {
         (State::Start, 'w') => Some(State::Withdraw),
@@ -196,9 +194,9 @@ fn step(state: State, byte: u8) -> Option<State>
 }
 
 // The command that was read, none where a command has to go on.
-fn finished(state: State) -> Option<Command>
-    requires { Bounded state }
-    ensures { Finished state result }
+fn command_at_end(state: State) -> Option<Command>
+    requires { IsBounded state }
+    ensures { Finishes state result }
 {
     match state {
         State::Tally => Some(Command::Tally),
@@ -239,19 +237,19 @@ fn finished(state: State) -> Option<Command>
     }
 }
 
-// Reads a line: the command that it spells, or how long its longest part is that begins one.
+/// Reads a line: the command that it spells, or how long its longest part is that begins one.
 pub fn parse(line: &[u8]) -> Result<Command, Fault>
-    ensures value { Answered line.now result }
+    ensures value { IsAnswered line.now result }
     ensures reads { (c : Command) → Spells line.now c → result ≡ Ok c }
     ensures unique { OneCommand }
     ensures short { ShortTexts }
 {
     let mut state = State::Start;
     for (place, byte) in line.iter().enumerate() {
-        let Some(next) = step(state, *byte) else {
+        let Some(next) = after_byte(state, *byte) else {
             return Err(Fault::NotACommand { place });
         };
         state = next;
     }
-    finished(state).ok_or(Fault::NotACommand { place: line.len() })
+    command_at_end(state).ok_or(Fault::NotACommand { place: line.len() })
 }

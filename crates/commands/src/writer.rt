@@ -1,16 +1,17 @@
-// A command written out.
+//! A command written out.
 ghost use Rattle.std.specs.Prelude.{◌≡◌, [], ◌∷◌, MatchBool};
-ghost use Rattle.texts.specs.Pushing.{Pushed};
-ghost use Rattle.commands.specs.Grammar.{Valid, letter, question, text};
-ghost use Rattle.commands.specs.Writing.{Wrote};
+ghost use Rattle.texts.specs.Pushing.{Pushes};
+ghost use Rattle.commands.specs.Grammar.{IsValid, letter, query_text, command_text};
+ghost use Rattle.commands.specs.Writing.{WritesIfRoom};
 
-use crate::command::{Command, Criterion};
+use crate::command::Command;
 use crate::reader::MOST_NUMBER;
 use arrayvec::{ArrayString, CapacityError};
 use journeys::Query;
+use measures::Criterion;
 use texts::{copy_out, push, push_spaced};
 
-// The length of the longest text, that of `e 255 255 999999 999999 v`.
+/// The length of the longest text, that of `e 255 255 999999 999999 v`.
 pub const LONGEST_TEXT: usize = 25;
 
 // A line in which a text is put together.
@@ -18,7 +19,7 @@ type Line = ArrayString<LONGEST_TEXT>;
 
 // Whether each number has at most six digits.
 fn is_valid(command: Command) -> bool
-    ensures { MatchBool result (Valid command) (Valid command → ⊥) }
+    ensures { MatchBool result (IsValid command) (IsValid command → ⊥) }
 {
     match command {
         Command::Withdraw { event } | Command::Reinstate { event } => event <= MOST_NUMBER,
@@ -28,7 +29,7 @@ fn is_valid(command: Command) -> bool
 }
 
 // The letter of a measure. No `Display`: no clause says that a write to a formatter
-// succeeds. A `From` to text would have the same six lines in an impl.
+// succeeds. A `From` to text would have the same lines in an impl.
 fn letter_of(criterion: Criterion) -> &'static str
     ensures { result.now ≡ letter criterion ∷ [] }
 {
@@ -44,7 +45,7 @@ fn letter_of(criterion: Criterion) -> &'static str
 
 // Puts a query's letter, stops and minutes behind the text of a line.
 fn push_question(line: &mut Line, criterion: Criterion, query: Query) -> Result<(), CapacityError>
-    ensures { Pushed 25 line.old.bytes (question criterion query) result line.new.bytes }
+    ensures { Pushes 25 line.old.bytes (query_text criterion query) result line.new.bytes }
 {
     push(line, letter_of(criterion))?;
     push_spaced(line, query.from)?;
@@ -55,7 +56,7 @@ fn push_question(line: &mut Line, criterion: Criterion, query: Query) -> Result<
 
 // Puts the text of a command behind that of a line.
 fn push_text(line: &mut Line, command: Command) -> Result<(), CapacityError>
-    ensures { Pushed 25 line.old.bytes (text command) result line.new.bytes }
+    ensures { Pushes 25 line.old.bytes (command_text command) result line.new.bytes }
 {
     match command {
         Command::Withdraw { event } => {
@@ -74,10 +75,10 @@ fn push_text(line: &mut Line, command: Command) -> Result<(), CapacityError>
     }
 }
 
-// Writes a command's text to the front of `out` and tells its length; none, with nothing written, where a
-// number has more than six digits or there is no room.
+/// Writes a command's text to the front of `out` and tells its length; none, with nothing written, where a
+/// number has more than six digits or there is no room.
 pub fn write(command: Command, out: &mut [u8]) -> Option<usize>
-    ensures { Wrote command out.old out.new result }
+    ensures { WritesIfRoom command out.old result out.new }
 {
     if !is_valid(command) {
         return None;

@@ -1,9 +1,10 @@
-// Tests of commands: lines with the places at which they stop being one, and commands there and back.
+//! Tests of commands: lines with the places at which they stop being one, and commands there and back.
 #![tactic(auto)]
 
-use commands::{Command, Criterion, LONGEST_TEXT, parse, write};
+use commands::{Command, LONGEST_TEXT, parse, write};
 use faults::Report;
 use journeys::Query;
+use measures::Criterion;
 
 // What a line that stops being a command at a place is refused with.
 fn refused_at(place: usize) -> Result<Command, Report> {
@@ -11,7 +12,7 @@ fn refused_at(place: usize) -> Result<Command, Report> {
 }
 
 // The command that a line spells, or the report of its fault.
-fn met(line: &[u8]) -> Result<Command, Report> {
+fn parse_line(line: &[u8]) -> Result<Command, Report> {
     parse(line).map_err(Report::from)
 }
 
@@ -77,7 +78,7 @@ mod tests {
             (b"c 0 00 1 2", 5),
         ];
         for (line, place) in table {
-            assert_eq!(rt; met(line), refused_at(place));
+            assert_eq!(rt; parse_line(line), refused_at(place));
         }
     }
 
@@ -137,13 +138,16 @@ mod tests {
     #[test]
     fn long_lines(rt: HostRuntime) {
         let mut line = [b'1'; 10_000];
-        assert_eq!(rt; met(&line), refused_at(0));
+        assert_eq!(rt; parse_line(&line), refused_at(0));
         line[0] = b'w';
         line[1] = b' ';
-        assert_eq!(rt; met(&line), refused_at(8));
-        assert_eq!(rt; met(&line[0..8]), Ok(Command::Withdraw { event: 111_111 }));
+        assert_eq!(rt; parse_line(&line), refused_at(8));
+        assert_eq!(rt;
+            parse_line(&line[0..8]),
+            Ok(Command::Withdraw { event: 111_111 })
+        );
         line[1] = b'\0';
-        assert_eq!(rt; met(&line), refused_at(1));
+        assert_eq!(rt; parse_line(&line), refused_at(1));
     }
 
     #[test]

@@ -5,7 +5,7 @@ use Rattle.std.proofs.lemmas.Bool.{eqb-true, lt-ltb}
 use Rattle.std.proofs.lemmas.List.{take_at}
 use Rattle.std.proofs.BufReadLemmas.{drop_through-append, take_through-append, take_through_nonempty}
 use Rattle.std.specs.Io.BufRead.{DropsThrough, drop_through, strip_last, take_through}
-use Rattle.dialogue.specs.Conversations.{FirstLine}
+use Rattle.dialogue.specs.Conversations.{IsFirstLine}
 
 abbrev HasNoTen : List ℕ → Type 0
 HasNoTen l = All (λ x. x ≢ 10) l
@@ -52,17 +52,17 @@ strip_no_ten (x ∷ xs) h =
     let last : eqb (get_or (x ∷ xs) (length (x ∷ xs) - 1) 0) 10 ≡ false = ne_eqb _ 10 (h (length (x ∷ xs) - 1) 0 (omega arith)) in
     let long : nat_lt 0 (length (x ∷ xs)) ≡ true = lt-ltb _ _ (omega arith) in rw (last, long) refl
 
-first_line_read : (bs : List ℕ) → 0 < length bs → FirstLine bs (strip_last 10 (take_through 10 bs)) (drop_through 10 bs)
+first_line_read : (bs : List ℕ) → 0 < length bs → IsFirstLine bs (strip_last 10 (take_through 10 bs)) (drop_through 10 bs)
 first_line_read bs some = ⊎_elim ended last (first_ten_or_none bs)
   where
-    ended : FirstTen bs → FirstLine bs (strip_last 10 (take_through 10 bs)) (drop_through 10 bs)
+    ended : FirstTen bs → IsFirstLine bs (strip_last 10 (take_through 10 bs)) (drop_through 10 bs)
     ended c =
         let line : strip_last 10 (take_through 10 bs) ≡ c.l =
         ap (λ x. strip_last 10 (take_through 10 x)) c.whole ∙ ap (strip_last 10) (take_through-append 10 c.l (10 ∷ c.r) c.before) ∙ strip_ten c.l in
         let rest : drop_through 10 bs ≡ c.r = ap (drop_through 10) c.whole ∙ drop_through-append 10 c.l (10 ∷ c.r) c.before in
         rw (line, rest) (record { whole = λ i lt. c.before i 0 lt; ends = inl c.whole })
 
-    last : HasNoTen bs → FirstLine bs (strip_last 10 (take_through 10 bs)) (drop_through 10 bs)
+    last : HasNoTen bs → IsFirstLine bs (strip_last 10 (take_through 10 bs)) (drop_through 10 bs)
     last h =
         let line : strip_last 10 (take_through 10 bs) ≡ bs =
         ap (λ x. strip_last 10 (take_through 10 x)) (sym (append-nil bs)) ∙ ap (strip_last 10) (take_through-append 10 bs [] h ∙ append-nil bs) ∙ strip_no_ten bs h in
@@ -70,11 +70,11 @@ first_line_read bs some = ⊎_elim ended last (first_ten_or_none bs)
         rw (line, rest) (record { whole = λ i lt. h i 0 lt; ends = inr (refl, refl, some) })
 
 -- what a read up to byte 10 appended to no bytes is a line
-pub line_read : (old new : Option (List ℕ)) (bs before read line : List ℕ) → old ≡ Some bs → before ≡ [] → IfSome old (λ xs. read ≡ before ++ take_through 10 xs) → DropsThrough old new 10 → 0 < length read → line ≡ strip_last 10 read → (r : List ℕ) × FirstLine bs line r × (new ≡ Some r)
+pub line_read : (old new : Option (List ℕ)) (bs before read line : List ℕ) → old ≡ Some bs → before ≡ [] → IfSome old (λ xs. read ≡ before ++ take_through 10 xs) → DropsThrough old new 10 → 0 < length read → line ≡ strip_last 10 read → (r : List ℕ) × IsFirstLine bs line r × (new ≡ Some r)
 line_read None new bs before read line e b was rest some cut = let c : None ≡ Some bs = e in cc c
 line_read (Some xs) new bs [] read line e b was rest some cut =
     let same : xs ≡ bs = ap (λ o. unwrap_or o []) e in
     let long : 0 < length xs = take_through_nonempty 10 xs (subst (λ x. 0 < length x) was some) in
     let stripped : line ≡ strip_last 10 (take_through 10 xs) = cut ∙ ap (strip_last 10) was in
-    (drop_through 10 xs, subst (λ x. FirstLine x line (drop_through 10 xs)) same (rw stripped (first_line_read xs long)), rest)
+    (drop_through 10 xs, subst (λ x. IsFirstLine x line (drop_through 10 xs)) same (rw stripped (first_line_read xs long)), rest)
 line_read (Some xs) new bs (x ∷ before) read line e b was rest some cut = cc b

@@ -6,9 +6,9 @@ use Rattle.std.proofs.lemmas.Bool.{both_ways}
 use Rattle.std.proofs.lemmas.List.{length-replicate}
 use Rattle.faults.specs.declared.Fault.{Fault}
 use Rattle.records.specs.declared.event.Event.{Event}
-use Rattle.replies.specs.Printed.{printed}
-use Rattle.dialogue.specs.Conversations.{NewDesk, Said, WholeConversation}
-use Rattle.dialogue.specs.Obeying.{PostDesk}
+use Rattle.replies.specs.Printed.{reply_line}
+use Rattle.dialogue.specs.Conversations.{IsNewSession, IsReplyText, WholeConversation}
+use Rattle.dialogue.specs.Obeying.{Session}
 use Rattle.conversations.specs.Streams.{Converses, Serves, WritesText}
 
 -- how long a new table is
@@ -24,14 +24,14 @@ from_written : {E : Type 0} (t xs : List ℕ) (r : Result (Unit {0}) E) → IsOk
 from_written t xs (Ok x) o w = w.front ∙ take_all w.count t (omega (arith, w.whole))
 from_written t xs (Err f) o w = absurd (both_ways _ refl o)
 
-module _ {S E : Type 0} (events : S → List Event) (place : S → ℕ) where
-  from_conversed : (es : List Event) (lines xs : List ℕ) (r : Result (Unit {0}) E) (r' : Option (List ℕ)) (b a : PostDesk S) → IsOk r → NewDesk events place es b → Converses events place b lines (Some []) r r' (Some xs) a → Said events place (Ok es) lines xs
+module _ {E : Type 0} where
+  from_conversed : (es : List Event) (lines xs : List ℕ) (r : Result (Unit {0}) E) (r' : Option (List ℕ)) (b a : Session) → IsOk r → IsNewSession es b → Converses b lines (Some []) r r' (Some xs) a → IsReplyText (Ok es) lines xs
   from_conversed es lines xs (Ok x) r' b a o new (t, held, end, appended) =
-      (b, a, new, subst (λ y. WholeConversation events place b lines y a) (sym appended) held)
+      (b, a, new, subst (λ y. WholeConversation b lines y a) (sym appended) held)
   from_conversed es lines xs (Err e) r' b a o new c = absurd (both_ways _ refl o)
 
-  pub said_of : (o : Result (List Event) Fault) (lines xs : List ℕ) (r : Result (Unit {0}) E) (w r' w' : Option (List ℕ)) → IsOk r → w ≡ Some [] → w' ≡ Some xs → Serves events place o lines w r r' w' → Said events place o lines xs
+  pub said_of : (o : Result (List Event) Fault) (lines xs : List ℕ) (r : Result (Unit {0}) E) (w r' w' : Option (List ℕ)) → IsOk r → w ≡ Some [] → w' ≡ Some xs → Serves o lines w r r' w' → IsReplyText o lines xs
   said_of (Ok es) lines xs r w r' w' ok e f s =
       ⊎_elim (λ h. absurd (clash r ok h.0)) (λ h. from_conversed es lines xs r r' h.0 h.1 ok h.2 (rw (e, f) at h.3)) s
   said_of (Err fault) lines xs r w r' w' ok e f s =
-      from_written (printed (Err fault) []) xs r ok (rw (e, f) at s.0)
+      from_written (reply_line (Err fault) []) xs r ok (rw (e, f) at s.0)

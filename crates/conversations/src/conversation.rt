@@ -1,6 +1,6 @@
-// A conversation: lines answered one after another.
+//! A conversation: lines answered one after another.
 ghost use Rattle.std.specs.Prelude.{◌≡◌, ℕ, List, Some};
-ghost use Rattle.dialogue.specs.Obeying.{desk};
+ghost use Rattle.dialogue.specs.Obeying.{session};
 ghost use Rattle.conversations.specs.Streams.{AnswersLine, Converses};
 
 use crate::reading::next_line;
@@ -20,9 +20,9 @@ fn answer_line<S: Source + Drop, W: Write>(
     tables: &mut PostTables<'_>,
     writer: &mut W,
 ) -> io::Result<()>
-    ensures { let b = desk post.old.source post.old.marks tables.old in
-        let a = desk post.new.source post.new.marks tables.new in
-        AnswersLine S.events S.place b line.now (W.contents writer.old) result
+    ensures { let b = session post.old tables.old in
+        let a = session post.new tables.new in
+        AnswersLine b line.now (W.contents writer.old) result
         (W.contents writer.new) a }
 {
     let mut reply = [0; LONGEST_LINE];
@@ -45,9 +45,9 @@ pub fn converse<S: Source + Drop, R: BufRead, W: Write>(
 ) -> io::Result<()>
     ensures { (bs : List ℕ)
         → R.remaining reader.old ≡ Some bs
-        → let b = desk post.old.source post.old.marks tables.old in
-        let a = desk post.new.source post.new.marks tables.new in
-        Converses S.events S.place b bs (W.contents writer.old) result (R.remaining reader.new)
+        → let b = session post.old tables.old in
+        let a = session post.new tables.new in
+        Converses b bs (W.contents writer.old) result (R.remaining reader.new)
         (W.contents writer.new) a }
 {
     let mut line = Vec::new(alloc);

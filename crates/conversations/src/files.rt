@@ -1,6 +1,6 @@
-// The service of a day whose events are in a file.
+//! The service of a day whose events are in a file.
 ghost use Rattle.std.specs.Prelude.{◌≡◌, ℕ, List, Some, IfOk};
-ghost use Rattle.blocks.specs.Blocks.{opening};
+ghost use Rattle.blocks.specs.Blocks.{events_or_fault};
 ghost use Rattle.conversations.specs.Streams.{IsHeldBy, ServesFile};
 
 use crate::service::serve;
@@ -36,8 +36,7 @@ pub fn serve_file<D: Read + Drop, R: BufRead, W: Write>(
     ensures { (day bs : List ℕ)
         → IsHeldBy D.remaining file day
         → R.remaining reader.old ≡ Some bs
-        → let records = ⟦<RecordSource as Source>⟧ in
-        ServesFile records.events records.place (opening day) bs (W.contents writer.old) result
+        → ServesFile (events_or_fault day) bs (W.contents writer.old) result
         (R.remaining reader.new) (W.contents writer.new) }
 {
     let day = bytes_of(alloc, file)?;

@@ -1,4 +1,4 @@
-// Lines read, one at a time.
+//! Lines read, one at a time.
 ghost use Rattle.std.specs.Prelude.{◌≡◌, ℕ, List, Some};
 ghost use Rattle.std.specs.Io.BufRead.{strip_last};
 ghost use Rattle.conversations.specs.Streams.{ReadsLine};
@@ -19,8 +19,11 @@ fn drop_end(line: &mut Vec<u8>)
     }
 }
 
-// Reads the next line, without the byte that ends it; tells whether there was one. No more is taken than the line, since the
-// next one may not be there before the reply is.
+/// Reads the next line, without the byte that ends it; tells whether there was one. No more is taken than the line, since the
+/// next one may not be there before the reply is.
+///
+/// # Errors
+/// Where the line can't be read or held.
 pub fn next_line<R: BufRead>(reader: &mut R, line: &mut Vec<u8>) -> io::Result<bool>
     ensures { (bs : List ℕ)
         → R.remaining reader.old ≡ Some bs

@@ -1,8 +1,8 @@
-// The service of a day: a post is put up over its events, and converses.
+//! The service of a day: a post is put up over its events, and converses.
 ghost use Rattle.std.specs.Prelude.{◌≡◌, ℕ, List, [], Some, Ok, Err, IfOk};
-ghost use Rattle.blocks.specs.Blocks.{opening};
-ghost use Rattle.replies.specs.Printed.{printed};
-ghost use Rattle.dialogue.specs.Conversations.{Said};
+ghost use Rattle.blocks.specs.Blocks.{events_or_fault};
+ghost use Rattle.replies.specs.Printed.{reply_line};
+ghost use Rattle.dialogue.specs.Conversations.{IsReplyText};
 ghost use Rattle.conversations.specs.Streams.{Serves, WritesText};
 
 use crate::conversation::converse;
@@ -29,7 +29,7 @@ fn converse_over<R: BufRead, W: Write>(
     ensures { (bs : List ℕ)
         → R.remaining reader.old ≡ Some bs
         → let records = ⟦<RecordSource as Source>⟧ in
-        Serves records.events records.place (Ok (records.events source)) bs
+        Serves (Ok (records.events source)) bs
         (W.contents writer.old) result (R.remaining reader.new) (W.contents writer.new) }
 {
     // No more of a log is made than the events need, so that no query clears more.
@@ -63,7 +63,7 @@ fn converse_over<R: BufRead, W: Write>(
 
 // Writes the line of a fault. It has 32 bytes at most, so there is always room for it.
 fn write_fault<W: Write>(fault: Fault, writer: &mut W) -> io::Result<()>
-    ensures { WritesText (printed (Err fault) []) (W.contents writer.old) result
+    ensures { WritesText (reply_line (Err fault) []) (W.contents writer.old) result
         (W.contents writer.new) }
 {
     let mut line = [0; LONGEST_LINE];
@@ -85,8 +85,7 @@ pub fn serve<R: BufRead, W: Write>(
 ) -> io::Result<()>
     ensures { (bs : List ℕ)
         → R.remaining reader.old ≡ Some bs
-        → let records = ⟦<RecordSource as Source>⟧ in
-        Serves records.events records.place (opening day.now) bs (W.contents writer.old) result
+        → Serves (events_or_fault day.now) bs (W.contents writer.old) result
         (R.remaining reader.new) (W.contents writer.new) }
 {
     match RecordSource::open(day) {
@@ -100,9 +99,7 @@ pub fn serve<R: BufRead, W: Write>(
 /// # Errors
 /// Where there is no memory for it.
 pub fn text_of(alloc: Global, day: &[u8], lines: &[u8]) -> io::Result<Vec<u8>>
-    ensures { let records = ⟦<RecordSource as Source>⟧ in
-        IfOk result
-        (λ text. Said records.events records.place (opening day.now) lines.now text.items) }
+    ensures { IfOk result (λ text. IsReplyText (events_or_fault day.now) lines.now text.items) }
 {
     let mut reader = lines;
     let mut text = Vec::new(alloc);

@@ -1,4 +1,4 @@
-// Text written, with what is known of it at an error: the library's `write_all` tells nothing there.
+//! Text written, with what is known of it at an error: the library's `write_all` tells nothing there.
 ghost use Rattle.std.specs.Prelude.{◌≡◌, ◌≤◌, length, take, OnOk};
 ghost use Rattle.std.specs.Io.KnownBytes.{Appends};
 ghost use Rattle.conversations.specs.Streams.{WritesText};
@@ -32,7 +32,10 @@ fn write_counted<W: Write>(writer: &mut W, bytes: &[u8]) -> (usize, io::Result<(
     (count, Err(io::Error::from(ErrorKind::TimedOut)))
 }
 
-// Writes a text, and hands it on at once. After an error a front of it was written.
+/// Writes a text, and hands it on at once.
+///
+/// # Errors
+/// Where it can't be written or handed on; a front of it was written.
 pub fn write_and_flush<W: Write>(writer: &mut W, text: &[u8]) -> io::Result<()>
     ensures { WritesText text.now (W.contents writer.old) result (W.contents writer.new) }
 {

@@ -1,4 +1,4 @@
-// Tests of conversations: readers, writers and files that fail, and replies that are flushed in time.
+//! Tests of conversations: readers, writers and files that fail, and replies that are flushed in time.
 #![tactic(auto)]
 
 #[cfg(test)]

@@ -1,5 +1,5 @@
-// What the contracts leave open: that a conversation comes to its end, and when a reply is flushed. The text that is wanted
-// is written by hand from the program's page.
+//! What the contracts leave open: that a conversation comes to its end, and when a reply is flushed. The text that is wanted
+//! is spelled out here, after the program's page.
 ghost use Rattle.std.specs.Prelude.{Some};
 
 use conversations::{serve, serve_file, text_of};
@@ -10,15 +10,15 @@ use std::test::Fail;
 
 // A reader that fails.
 #[derive(Drop)]
-struct Broken;
+struct BrokenReader;
 
-impl Read for Broken {
+impl Read for BrokenReader {
     fn read(&mut self, _buf: &mut [u8]) -> io::Result<usize> {
         Err(io::Error::from(ErrorKind::ConnectionReset))
     }
 }
 
-impl BufRead for Broken {
+impl BufRead for BrokenReader {
     fn fill_buf(&mut self) -> io::Result<&[u8]> {
         Err(io::Error::from(ErrorKind::ConnectionReset))
     }
@@ -28,13 +28,13 @@ impl BufRead for Broken {
 
 // A writer that takes a byte at a time, is interrupted in between, and has room for so many.
 #[derive(Drop)]
-struct Narrow {
+struct NarrowWriter {
     taken: Vec<u8>,
     room: usize,
     was_interrupted: bool,
 }
 
-impl Write for Narrow {
+impl Write for NarrowWriter {
     ghost contents = { λ w. Some w.taken.items };
 
     fn write(&mut self, buf: &[u8]) -> io::Result<usize> {
@@ -60,12 +60,12 @@ impl Write for Narrow {
 
 // A writer that tells how many bytes were handed on.
 #[derive(Drop)]
-struct Told<'a> {
+struct CountingWriter<'a> {
     written: usize,
     handed_on: &'a Cell<usize>,
 }
 
-impl Write for Told<'_> {
+impl Write for CountingWriter<'_> {
     fn write(&mut self, buf: &[u8]) -> io::Result<usize> {
         self.written = self.written.saturating_add(buf.len());
         Ok(buf.len())
@@ -79,18 +79,18 @@ impl Write for Told<'_> {
 
 // A reader of no bytes that fails unless so many were handed on before it is asked for any.
 #[derive(Drop)]
-struct Gate<'a> {
+struct GatedReader<'a> {
     wanted: usize,
     handed_on: &'a Cell<usize>,
 }
 
-impl Read for Gate<'_> {
+impl Read for GatedReader<'_> {
     fn read(&mut self, _buf: &mut [u8]) -> io::Result<usize> {
         Err(io::Error::from(ErrorKind::Unsupported))
     }
 }
 
-impl BufRead for Gate<'_> {
+impl BufRead for GatedReader<'_> {
     fn fill_buf(&mut self) -> io::Result<&[u8]> {
         if self.handed_on.get() != self.wanted {
             return Err(io::Error::from(ErrorKind::WouldBlock));
@@ -104,7 +104,7 @@ impl BufRead for Gate<'_> {
 #[test]
 fn reader_that_fails(rt: HostRuntime) -> Result<(), Fail> {
     let mut out = Vec::new(rt.alloc());
-    let mut reader = b"t\nx\nt".as_slice().chain(Broken);
+    let mut reader = b"t\nx\nt".as_slice().chain(BrokenReader);
     assert!(rt; serve(rt.alloc(), &[], &mut reader, &mut out).is_err());
     assert_eq!(rt; out.as_slice(), b"0\nno 11 4 0\n".as_slice());
     Ok(())
@@ -114,7 +114,7 @@ fn reader_that_fails(rt: HostRuntime) -> Result<(), Fail> {
 fn writer_that_fails(rt: HostRuntime) -> Result<(), Fail> {
     let whole = b"0\nno 11 4 0\n0\n".as_slice();
     for room in 0..16usize {
-        let mut writer = Narrow {
+        let mut writer = NarrowWriter {
             taken: Vec::new(rt.alloc()),
             room,
             was_interrupted: false,
@@ -134,13 +134,13 @@ fn writer_that_fails(rt: HostRuntime) -> Result<(), Fail> {
 }
 
 #[test]
-fn handed_on_before_the_next_line(rt: HostRuntime) -> Result<(), Fail> {
+fn replies_are_flushed_before_the_next_line(rt: HostRuntime) -> Result<(), Fail> {
     let handed_on = Cell::new(0);
-    let mut writer = Told {
+    let mut writer = CountingWriter {
         written: 0,
         handed_on: &handed_on,
     };
-    let gate = |wanted: usize| Gate {
+    let gate = |wanted: usize| GatedReader {
         wanted,
         handed_on: &handed_on,
     };
@@ -155,10 +155,10 @@ fn handed_on_before_the_next_line(rt: HostRuntime) -> Result<(), Fail> {
 fn files(rt: HostRuntime) -> Result<(), Fail> {
     let mut out = Vec::new(rt.alloc());
     let mut lines = b"t\n".as_slice();
-    let broken = b"\x02".as_slice().chain(Broken);
+    let broken = b"\x02".as_slice().chain(BrokenReader);
     assert!(rt; serve_file(rt.alloc(), Some(broken), &mut lines, &mut out).is_err());
     assert_eq!(rt; (lines.len(), out.len()), (2, 0));
-    serve_file(rt.alloc(), None::<Broken>, &mut lines, &mut out)?;
+    serve_file(rt.alloc(), None::<BrokenReader>, &mut lines, &mut out)?;
     assert_eq!(rt; lines.len(), 0);
     assert_eq!(rt; out.as_slice(), b"0\n".as_slice());
     let mut lines = b"t\n".as_slice();

@@ -1,12 +1,11 @@
--- What a conversation leaves continues what it met.
+-- What a conversation leaves extends the history of what it met.
 use Rattle.std.proofs.Common.{ℕ, List}
-use Rattle.records.specs.declared.event.Event.{Event}
-use Rattle.dialogue.specs.Conversations.{Conversation, answered, begun}
-use Rattle.dialogue.specs.Obeying.{ExtendsHistory, Desk}
-use Rattle.dialogue.proofs.Continuing.{continues_on, unchanged_continues}
+use Rattle.timetable_post.specs.Histories.{ExtendsHistory}
+use Rattle.dialogue.specs.Conversations.{Conversation, one_more_line, no_lines}
+use Rattle.dialogue.specs.Obeying.{Session}
+use Rattle.dialogue.proofs.Continuing.{extends_itself, extends_on}
 
-module _ {S X Y U V Z : Type 0} (events : S → List Event) (place : S → ℕ) (b : Desk S X Y U V Z) where
-  pub conversation_continues : {bs : List ℕ} {a : Desk S X Y U V Z} {t left : List ℕ} → Conversation events place b bs t a left → ExtendsHistory events place b a
-  conversation_continues begun = unchanged_continues events place b
-  conversation_continues (answered {m} {a} before line interprets) =
-      continues_on events place b m a (conversation_continues before) interprets.history
+pub conversation_extends : {b : Session} {bs : List ℕ} {a : Session} {t left : List ℕ} → Conversation b bs t a left → ExtendsHistory b.post a.post
+conversation_extends {b} no_lines = extends_itself b.post
+conversation_extends {b} (one_more_line {m} {a} before line interprets) =
+    extends_on b.post m.post a.post (conversation_extends before) interprets.history

@@ -1,7 +1,7 @@
 -- The tables that a post works with. Assumes nothing.
---     SamePostTables t t'  each table of t', after a call, is the same memory as that of t, before it, and as long; no type
---                          compares two moments, so clauses say it
-use Rattle.steps.specs.Tables.{SameSlice}
+--     SamePostTables t t'  each table of t', after a call, is the same memory as that of t, before it, and as long; clauses
+--                          have to say it, since a type speaks of one moment
+use Rattle.scans.specs.Tables.{SameSlice}
 use Rattle.dialogue.specs.declared.tables.PostTables.{PostTables}
 
 abbrev pub SamePostTables : PostTables → PostTables → Type 0

@@ -1,20 +1,24 @@
-// What a post does on a line.
+//! What a post does on a line.
 ghost use Rattle.std.specs.Prelude.{◌≡◌, ◌≤◌, length};
-ghost use Rattle.measures.specs.Six.{fastest};
-ghost use Rattle.timetable_post.specs.Queries.{Queried};
-ghost use Rattle.dialogue.specs.Obeying.{Interprets, Obeys, Responds, by_number, by_trip, desk, query_reply};
+ghost use Rattle.records.specs.Limits.{longest_line};
+ghost use Rattle.measures.specs.Criteria.{ops};
+ghost use Rattle.timetable_post.specs.Histories.{Continues};
+ghost use Rattle.timetable_post.specs.Queries.{Queries, call_of};
+ghost use Rattle.dialogue.specs.Obeying.{Interprets, Obeys, Responds, number_part, query_reply, session, trip_part};
 ghost use Rattle.dialogue.specs.Tables.{SamePostTables};
-ghost use Rattle.replies.specs.Printed.{Written, printed};
+ghost use Rattle.replies.specs.Printed.{reply_line};
+ghost use Rattle.texts.specs.Pushing.{IsOverFront};
 
 use crate::tables::PostTables;
-use commands::{Command, Criterion, parse};
+use commands::{Command, parse};
 use faults::Fault;
-use journeys::{Query, six_measures_are_plain, walks_are_journeys};
+use journeys::{Answer, Query, measures_are_plain, walks_are_journeys};
 use measures::{
-    EarliestArrival, Fastest, FewestRides, LatestDeparture, LeastRiding, LeastWaiting, Measure,
+    Criterion, EarliestArrival, Fastest, FewestRides, LatestDeparture, LeastRiding, LeastWaiting,
+    Measure,
 };
 use replies::{LONGEST_LINE, Reply, write};
-use search::{Answer, Tables};
+use search::Tables;
 use sources::Source;
 use timetable_post::Post;
 
@@ -25,17 +29,22 @@ fn ask_by_number<S: Source + Drop, M: Measure<Label = u32>>(
     query: Query,
     tables: &mut PostTables<'_>,
 ) -> Result<Answer, Fault>
-    ensures queried { Queried M.ops S.events S.place query (by_number (desk post.old.source post.old.marks tables.old)) result (by_number (desk post.new.source post.new.marks tables.new)) }
-    ensures trips { (tables.new.trip_log.now ≡ tables.old.trip_log.now) × (tables.new.trip_board.now ≡ tables.old.trip_board.now) }
+    ensures queries { let b = number_part (session post.old tables.old) in
+        let a = number_part (session post.new tables.new) in
+        Queries M.ops query b result a }
+    ensures history { let b = number_part (session post.old tables.old) in
+        Continues post.old (call_of M.ops query b result tables.new.steps.now) post.new }
+    ensures trips { (tables.new.trip_log.now ≡ tables.old.trip_log.now)
+        × (tables.new.trip_board.now ≡ tables.old.trip_board.now) }
     ensures same { SamePostTables tables.old tables.new }
 {
-    let mut handed = Tables {
+    let mut lent = Tables {
         log: tables.log,
         board: tables.board,
         queue: tables.queue,
         steps: tables.steps,
     };
-    post.query::<M>(query, &mut handed)
+    post.query::<M>(query, &mut lent)
 }
 
 // Queries the post under the measure whose labels are trips, in the tables for these.
@@ -44,30 +53,38 @@ fn ask_by_trip<S: Source + Drop>(
     query: Query,
     tables: &mut PostTables<'_>,
 ) -> Result<Answer, Fault>
-    ensures queried { Queried fastest S.events S.place query (by_trip (desk post.old.source post.old.marks tables.old)) result (by_trip (desk post.new.source post.new.marks tables.new)) }
-    ensures numbers { (tables.new.log.now ≡ tables.old.log.now) × (tables.new.board.now ≡ tables.old.board.now) }
+    ensures queries { let b = trip_part (session post.old tables.old) in
+        let a = trip_part (session post.new tables.new) in
+        Queries (ops Criterion.Fastest) query b result a }
+    ensures history { let b = trip_part (session post.old tables.old) in
+        let call = call_of (ops Criterion.Fastest) query b in
+        Continues post.old (call result tables.new.steps.now) post.new }
+    ensures numbers { (tables.new.log.now ≡ tables.old.log.now)
+        × (tables.new.board.now ≡ tables.old.board.now) }
     ensures same { SamePostTables tables.old tables.new }
 {
-    let mut handed = Tables {
+    let mut lent = Tables {
         log: tables.trip_log,
         board: tables.trip_board,
         queue: tables.queue,
         steps: tables.steps,
     };
-    post.query::<Fastest>(query, &mut handed)
+    post.query::<Fastest>(query, &mut lent)
 }
 
-// Queries the post under the measure of a letter. The six are types with labels of their own, which no `dyn` holds.
+// Queries the post under the measure of a criterion. The measures are types with labels of their own, which no `dyn` holds.
 fn find<S: Source + Drop>(
     post: &mut Post<S>,
     criterion: Criterion,
     query: Query,
     tables: &mut PostTables<'_>,
 ) -> Result<Answer, Fault>
-    ensures obeys { Obeys S.events S.place (desk post.old.source post.old.marks tables.old) (Command.Find criterion query) (query_reply result) (desk post.new.source post.new.marks tables.new) }
+    ensures obeys { let b = session post.old tables.old in
+        let a = session post.new tables.new in
+        Obeys b (Command.Find criterion query) (query_reply result) a }
     ensures same { SamePostTables tables.old tables.new }
 {
-    six_measures_are_plain();
+    measures_are_plain();
     walks_are_journeys();
     match criterion {
         Criterion::EarliestArrival => ask_by_number::<S, EarliestArrival>(post, query, tables),
@@ -85,7 +102,8 @@ fn obey<S: Source + Drop>(
     command: Command,
     tables: &mut PostTables<'_>,
 ) -> Result<Reply, Fault>
-    ensures obeys { Obeys S.events S.place (desk post.old.source post.old.marks tables.old) command result (desk post.new.source post.new.marks tables.new) }
+    ensures obeys { let b = session post.old tables.old in
+        Obeys b command result (session post.new tables.new) }
     ensures same { SamePostTables tables.old tables.new }
 {
     match command {
@@ -98,14 +116,17 @@ fn obey<S: Source + Drop>(
     }
 }
 
-// Answers a line: the command that it spells is obeyed; a line that spells none is refused with 11. The line of every
-// reply has 8,192 bytes at most.
+/// Answers a line: the command that it spells is obeyed. The line of every reply has 8,192 bytes at most.
+///
+/// # Errors
+/// 11 where the line spells no command; or the fault that the call of the command answers.
 pub fn answer<S: Source + Drop>(
     post: &mut Post<S>,
     line: &[u8],
     tables: &mut PostTables<'_>,
 ) -> Result<Reply, Fault>
-    ensures interprets { Interprets S.events S.place (desk post.old.source post.old.marks tables.old) line.now result (desk post.new.source post.new.marks tables.new) }
+    ensures interprets { let b = session post.old tables.old in
+        Interprets b line.now result (session post.new tables.new) }
     ensures same { SamePostTables tables.old tables.new }
 {
     obey(post, parse(line)?, tables)
@@ -119,9 +140,9 @@ pub fn respond<S: Source + Drop>(
     tables: &mut PostTables<'_>,
     out: &mut [u8; LONGEST_LINE],
 ) -> usize
-    ensures responds { let b = desk post.old.source post.old.marks tables.old in
-        let a = desk post.new.source post.new.marks tables.new in
-        Responds S.events S.place b line.now out.old result a out.new }
+    ensures responds { let b = session post.old tables.old in
+        let a = session post.new tables.new in
+        Responds b line.now out.old result a out.new }
     ensures same { SamePostTables tables.old tables.new }
 {
     let reply = answer(post, line, tables);
@@ -134,8 +155,8 @@ fn write_line(
     tables: &PostTables<'_>,
     out: &mut [u8; LONGEST_LINE],
 ) -> usize
-    requires { length (printed reply tables.now.steps.now) ≤ 8192 }
-    ensures { Written reply tables.now.steps.now out.old out.new result }
+    requires { length (reply_line reply tables.now.steps.now) ≤ longest_line }
+    ensures { IsOverFront (reply_line reply tables.now.steps.now) out.old result out.new }
 {
     write(reply, tables.steps, out).unwrap_or(0)
 }

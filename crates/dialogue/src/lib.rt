@@ -1,4 +1,4 @@
-// The dialogue with a post: a line of bytes in, a reply out, or its line of bytes.
+//! The dialogue with a post: a line of bytes in, a reply out, or its line of bytes.
 #![tactic(auto)]
 
 mod interpreter;

@@ -1,25 +1,25 @@
 -- Tests in a fixed order, of which the first that fails decides. Assumes nothing.
 --     Rule             a test, with the fault that is met where it is false
---     first_broken rs  the fault of the first rule whose test is false, none where all are true
---     Kept rs          every test is true
---     judged rs x      x where every test is true, else the first broken rule's fault
---     judged_by o x    x where o has no fault, else that fault
-use Rattle.std.specs.Prelude.{◌≡◌, Bool, cond, List, [], ◌∷◌, Some, None, Ok, Err, Option, Result}
+--     first_fault rs   the fault of the first rule whose test is false, none where all are true
+--     IsKept rs        every test is true
+--     ruling rs x      x where every test is true, else the first broken rule's fault
+--     ruling_by o x    x where o has no fault, else that fault
+use Rattle.std.specs.Prelude.{◌≡◌, Bool, List, [], ◌∷◌, Some, None, Ok, Err, Option, Result, if◌then◌else◌}
 use Rattle.faults.specs.declared.Fault.{Fault}
 
 abbrev pub Rule : Type 0
 Rule = Bool × Fault
 
-abbrev pub first_broken : List Rule → Option Fault
-first_broken [] = None
-first_broken (r ∷ rs) = cond r.0 (first_broken rs) (Some r.1)
+abbrev pub first_fault : List Rule → Option Fault
+first_fault [] = None
+first_fault (r ∷ rs) = if r.0 then first_fault rs else Some r.1
 
-abbrev pub Kept : List Rule → Type 0
-Kept rs = first_broken rs ≡ None
+abbrev pub IsKept : List Rule → Type 0
+IsKept rs = first_fault rs ≡ None
 
-abbrev pub judged_by : {T : Type 0} → Option Fault → T → Result T Fault
-judged_by None x = Ok x
-judged_by (Some f) x = Err f
+abbrev pub ruling_by : {T : Type 0} → Option Fault → T → Result T Fault
+ruling_by None x = Ok x
+ruling_by (Some f) x = Err f
 
-abbrev pub judged : {T : Type 0} → List Rule → T → Result T Fault
-judged rs x = judged_by (first_broken rs) x
+abbrev pub ruling : {T : Type 0} → List Rule → T → Result T Fault
+ruling rs x = ruling_by (first_fault rs) x

@@ -6,7 +6,7 @@
 use Rattle.std.specs.Prelude.{◌≡◌, List, length}
 use Rattle.faults.specs.Rules.{Rule}
 use Rattle.records.specs.declared.event.Event.{Event}
-use Rattle.search.specs.Queries.{Lengths, lengths_in, table_rules}
+use Rattle.search.specs.Lengths.{Lengths, lengths_in, table_rules}
 use Rattle.heap_tables.specs.declared.HeapTables.{HeapTables}
 
 abbrev pub lengths_of : {L : Type 0} → HeapTables L → Lengths

@@ -1,12 +1,12 @@
-// What the library's traits mean at lengths and at what new tables have in them.
+//! What the library's traits mean at lengths and at what new tables have in them.
 ghost use Rattle.std.specs.Prelude.{◌≡◌, None, false, IsTrue, ◌↔◌};
-ghost use Rattle.steps.specs.Arrivals.{arriving};
+ghost use Rattle.scans.specs.Arrivals.{arriving};
 ghost use Rattle.heap_tables.specs.declared.Lengths.{Lengths};
 ghost use Rattle.heap_tables.specs.declared.Slots.{Slots};
 
 use crate::{Lengths, Slots};
 
-/// Two tuples of lengths compare equal exactly where they are the same.
+/// Two `Lengths` compare equal exactly where they are the same.
 pub fn equality_is_identity()
     ensures { (a b : Lengths) → IsTrue (⟦<Lengths as PartialEq>⟧.eq a b) ↔ (a ≡ b) }
 {}
@@ -25,7 +25,7 @@ pub fn clone_is_identity<L: Clone>()
 pub fn defaults_are_empty<L: Default>()
     ensures { (s : Slots L) → ⟦<Slots<L> as Default>⟧.is_default s → s ≡ record {
       entry = None;
-      standing = None;
+      incumbent = None;
       arrival = arriving 0 (record { event = 0; called = false });
       step = 0;
     } }

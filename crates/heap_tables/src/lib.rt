@@ -1,26 +1,26 @@
-// The tables of a search on the heap, for programs and tests that have one.
+//! The tables of a search on the heap, for programs and tests that have one.
 #![tactic(auto)]
 
-ghost use Rattle.std.specs.Prelude.{◌≡◌, ◌==◌, length, drop, replicate, Some, IfOk, MatchResult, OnErr};
-ghost use Rattle.std.specs.List.{list_all};
-ghost use Rattle.faults.specs.Rules.{Kept, first_broken};
-ghost use Rattle.journeys.specs.Verdicts.{in_force};
-ghost use Rattle.search.specs.Queries.{lengths_in, table_rules};
-ghost use Rattle.search.specs.Searches.{Found, reads_of};
-ghost use Rattle.heap_tables.specs.Filling.{Filled, lengths_for};
+ghost use Rattle.std.specs.Prelude.{◌≡◌, length, replicate, Some, IfOk, MatchResult, OnErr};
+ghost use Rattle.faults.specs.Rules.{IsKept, first_fault};
+ghost use Rattle.journeys.specs.Marks.{is_in_force};
+ghost use Rattle.search.specs.Lengths.{lengths_in, table_rules};
+ghost use Rattle.search.specs.Searches.{FindsBest, reads_of};
+ghost use Rattle.heap_tables.specs.Filling.{IsFilled, lengths_for};
 ghost use Rattle.heap_tables.specs.Searching.{SameLengths, SameSlots, rules_for};
 
 mod facts;
 
 pub use facts::{clone_is_identity, defaults_are_empty, equality_is_identity};
 use faults::Fault;
+use journeys::Answer;
 use measures::Measure;
-use search::{Answer, BOARD_SLOTS, Carried, CheckedQuery, Tables, search};
+use scans::{Arrival, Entry, Incumbent};
+use search::{BOARD_SLOTS, Carried, CheckedQuery, Tables, search};
 use sources::Source;
 use std::alloc::{AllocError, Global};
-use steps::{Arrival, Entry, Standing};
 
-// How many slots each of the tables has.
+/// How many slots each of the tables has.
 #[derive(Clone, Copy, PartialEq, Eq, Debug)]
 pub struct Lengths {
     pub log: usize,
@@ -30,7 +30,8 @@ pub struct Lengths {
 }
 
 impl Lengths {
-    // The least that a search over so many events takes; no table is longer than the largest number.
+    /// The least that a search over so many events takes; no table is longer than the largest
+    /// number.
     pub fn for_events(events: usize) -> Lengths
         ensures { result ≡ lengths_for events }
     {
@@ -44,30 +45,17 @@ impl Lengths {
     }
 }
 
-// A number that no event has, for slots of a step table that are not to be written.
-pub const NONSENSE: usize = 77_777;
-
-// The same for the tables in which a search works.
-pub const NO_EVENT: u16 = 65_535;
-
-// Whether a step table has nonsense in each slot behind the first ones.
-pub fn is_nonsense_behind(steps: &[usize], count: usize) -> bool
-    ensures { result ≡ list_all (λ step. step == 77777) (drop count steps.now) }
-{
-    steps.iter().skip(count).all(|step| *step == NONSENSE)
-}
-
-// What new tables have in their slots; by default nothing, or noughts.
+/// What new tables have in their slots; by default nothing, or noughts.
 #[derive(Clone, Copy, Default)]
 pub struct Slots<L> {
     pub entry: Option<Entry<Carried<L>>>,
-    pub standing: Option<Standing<Carried<L>>>,
+    pub incumbent: Option<Incumbent<Carried<L>>>,
     pub arrival: Arrival,
     pub step: usize,
 }
 
 // A table with the same in each slot.
-fn filled<T: Copy>(heap: Global, slots: usize, value: T) -> Result<Vec<T>, AllocError>
+fn table_of<T: Copy>(heap: Global, slots: usize, value: T) -> Result<Vec<T>, AllocError>
     ensures { IfOk result (λ table. table.items ≡ replicate slots value) }
 {
     let mut table = Vec::new(heap);
@@ -75,24 +63,25 @@ fn filled<T: Copy>(heap: Global, slots: usize, value: T) -> Result<Vec<T>, Alloc
     Ok(table)
 }
 
-// Searches in four slices, which are lent for the search alone, one by one, since nothing tells what vectors hold once a struct was lent them.
+// Searches in four slices, which are lent for the search alone, one by one, since nothing tells
+// what vectors hold once a struct was lent them.
 fn search_in<S: Source, M: Measure>(
     source: &mut S,
     marks: &[bool],
     query: CheckedQuery,
     log: &mut [Option<Entry<Carried<M::Label>>>],
-    board: &mut [Option<Standing<Carried<M::Label>>>],
+    board: &mut [Option<Incumbent<Carried<M::Label>>>],
     queue: &mut [Arrival],
     steps: &mut [usize],
 ) -> Result<Option<Answer>, Fault>
     ensures found { let es = S.events source.old in
         let rules = table_rules (length es) (lengths_in log.old board.old queue.old steps.old) in
         MatchResult result
-        (λ o. Kept rules × Found M.ops es (in_force marks.now) query.query steps.old o steps.new)
-        (λ f. first_broken rules ≡ Some f) }
+        (λ o. IsKept rules × FindsBest M.ops es (is_in_force marks.now) query steps.old o steps.new)
+        (λ f. first_fault rules ≡ Some f) }
     ensures read { let es = S.events source.old in
         MatchResult result
-        (λ _. (S.events source.new ≡ es) × (S.place source.new ≡ reads_of es query.query.close))
+        (λ _. (S.events source.new ≡ es) × (S.place source.new ≡ reads_of es query.close))
         (λ _. source.new ≡ source.old) }
     ensures log { OnErr result (log.new ≡ log.old) }
     ensures board { OnErr result (board.new ≡ board.old) }
@@ -110,25 +99,25 @@ fn search_in<S: Source, M: Measure>(
     answer
 }
 
-// A log of entries, a board of who is ready where, a queue of awaited arrivals, and a table of steps.
+/// A log of entries, a board of who is ready where, a queue of awaited arrivals, and a table of steps.
 #[derive(Drop)]
 pub struct HeapTables<L> {
     pub log: Vec<Option<Entry<Carried<L>>>>,
-    pub board: Vec<Option<Standing<Carried<L>>>>,
+    pub board: Vec<Option<Incumbent<Carried<L>>>>,
     pub queue: Vec<Arrival>,
     pub steps: Vec<usize>,
 }
 
 impl<L: Copy> HeapTables<L> {
-    // Tables of these lengths, with the same in each slot.
+    /// Tables of these lengths, with the same in each slot.
     pub fn new(heap: Global, lengths: Lengths, slots: Slots<L>) -> Result<HeapTables<L>, AllocError>
-        ensures { IfOk result (λ t. Filled lengths slots t) }
+        ensures { IfOk result (λ t. IsFilled lengths slots t) }
     {
         Ok(HeapTables {
-            log: filled(heap, lengths.log, slots.entry)?,
-            board: filled(heap, lengths.board, slots.standing)?,
-            queue: filled(heap, lengths.queue, slots.arrival)?,
-            steps: filled(heap, lengths.steps, slots.step)?,
+            log: table_of(heap, lengths.log, slots.entry)?,
+            board: table_of(heap, lengths.board, slots.incumbent)?,
+            queue: table_of(heap, lengths.queue, slots.arrival)?,
+            steps: table_of(heap, lengths.steps, slots.step)?,
         })
     }
 
@@ -151,11 +140,11 @@ impl<L: Copy> HeapTables<L> {
             let steps = self.old.steps.items in
             let steps' = self.new.steps.items in
             MatchResult result
-            (λ o. Kept rules × Found M.ops es (in_force marks.now) query.query steps o steps')
-            (λ f. first_broken rules ≡ Some f) }
+            (λ o. IsKept rules × FindsBest M.ops es (is_in_force marks.now) query steps o steps')
+            (λ f. first_fault rules ≡ Some f) }
         ensures read { let es = S.events source.old in
             MatchResult result
-            (λ _. (S.events source.new ≡ es) × (S.place source.new ≡ reads_of es query.query.close))
+            (λ _. (S.events source.new ≡ es) × (S.place source.new ≡ reads_of es query.close))
             (λ _. source.new ≡ source.old) }
         ensures refused { OnErr result (SameSlots self.old self.new) }
         ensures lengths { SameLengths self.old self.new }
@@ -184,12 +173,7 @@ mod tests {
     // The only ride, in force and out of it, in a step table that is longer than it needs to be.
     #[test]
     fn searched_in_place(rt: HostRuntime) -> Result<(), Fail> {
-        let ride = Event::Ride {
-            from: 1,
-            to: 2,
-            departure: 110,
-            duration: 20,
-        };
+        let ride = Event::ride(1, 2, 110, 20);
         let mut source = RecordSource::open(&write(ride)?)?;
         let query = CheckedQuery::new(Query {
             from: 1,

@@ -1,6 +1,8 @@
+pub mod Answers
 pub mod Best
 pub mod Formulas
 pub mod Journeys
+pub mod Marks
 pub mod Queries
 pub mod Shown
 pub mod Verdicts

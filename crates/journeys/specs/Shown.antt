@@ -1,11 +1,11 @@
 -- A verdict in words. Assumes nothing.
---     shown v          the text of the verdict v, with its numbers in decimal, and the score in brackets
+--     verdict_text v   the text of the verdict v, with its numbers in decimal, and the score in brackets
 use Rattle.std.specs.Prelude.{ℕ, List, ◌++◌, codes, decimal}
 use Rattle.std.specs.Fmt.{signed_decimal}
 use Rattle.journeys.specs.declared.judgment.Verdict.{Verdict}
 
-abbrev pub shown : Verdict → List ℕ
-shown v =
+abbrev pub verdict_text : Verdict → List ℕ
+verdict_text v =
     codes "from "
     ++ (decimal v.begin
     ++ (codes " to "

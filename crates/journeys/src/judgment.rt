@@ -1,17 +1,19 @@
-// Judging a list of event numbers: whether it is a journey that fits, and what it scores.
-ghost use Rattle.std.specs.Prelude.{◌≡◌, ◌+◌, ◌^◌, ◌<◌, ◌≤◌, ◌&&◌, length, drop, Decides, nat_lt, Some};
+//! Judging a list of event numbers: whether it is a journey that fits, and what it scores.
+ghost use Rattle.std.specs.Prelude.{◌≡◌, ◌+◌, ◌^◌, ◌<◌, ◌≤◌, ◌&&◌, length, drop, ◌↔◌, IsTrue, nat_lt, Some};
 ghost use Rattle.journeys.specs.Formulas.{along};
-ghost use Rattle.journeys.specs.Journeys.{Link, minutes, numbered, one_if_opening, one_if_ride};
-ghost use Rattle.journeys.specs.Shown.{shown};
-ghost use Rattle.journeys.specs.Verdicts.{Asked, Chain, in_force, Judged, Next, totals_of};
+ghost use Rattle.journeys.specs.Journeys.{Link, minutes, event_numbered, one_if_opening, one_if_ride};
+ghost use Rattle.journeys.specs.Shown.{verdict_text};
+ghost use Rattle.journeys.specs.Marks.{is_in_force};
+ghost use Rattle.journeys.specs.Verdicts.{MeetsQuery, IsChain, IsVerdict, Next, totals_of};
 
+use crate::marks::is_in_force;
 use crate::query::Query;
-use crate::travel::{end_of, label_through, leaves_at, reaches_at};
+use crate::travel::{end_of, label_through, leaves_at, reaches_at, ready_at, starts_at};
 use measures::Measure;
 use records::Event;
 use std::fmt;
 
-// What is said of a journey that fits.
+/// What is said of a journey that fits.
 #[derive(Clone, Copy, PartialEq, Eq, Debug)]
 pub struct Verdict {
     pub begin: u32,
@@ -23,7 +25,7 @@ pub struct Verdict {
 
 // In words, with the score in brackets.
 impl fmt::Display for Verdict {
-    ghost output = { λ verdict. Some (shown verdict) };
+    ghost output = { λ verdict. Some (verdict_text verdict) };
 
     fn fmt<W: fmt::Write>(&self, f: &mut fmt::Formatter<W>) -> fmt::Result {
         let Verdict {
@@ -47,50 +49,43 @@ struct Totals {
     openings: usize,
 }
 
-// The event with a number; beyond the list, an opening that no one can use. Sources have the same opening with another meaning, in
-// slots of a table that are not filled.
+// The event with a number; beyond the list, an opening that no one can use. Sources have the same opening with another meaning,
+// in slots of a table that are not filled.
 fn event_numbered(events: &[Event], number: usize) -> Event
-    ensures { result ≡ numbered events.now number }
+    ensures { result ≡ event_numbered events.now number }
 {
-    let unusable = Event::Opening { stop: 0, minute: 0 };
+    let unusable = Event::opening(0, 0);
     events.get(number).copied().unwrap_or(unusable)
-}
-
-// Whether the marks leave an event in force; beyond them every event is.
-pub fn is_in_force(marks: &[bool], number: usize) -> bool
-    ensures { result ≡ in_force marks.now number }
-{
-    !marks.get(number).copied().unwrap_or(false)
 }
 
 // Whether a number is that of an event in force. Events and marks are lent beside each other, as they are lent to the judge.
 fn is_known(events: &[Event], marks: &[bool], number: usize) -> bool
-    ensures { result ≡ (nat_lt number (length events.now) && in_force marks.now number) }
+    ensures { result ≡ (nat_lt number (length events.now) && is_in_force marks.now number) }
 {
     number < events.len() && is_in_force(marks, number)
 }
 
 // Whether a traveller can go on from the first event to the second.
 fn is_link(events: &[Event], first: usize, second: usize) -> bool
-    ensures { Decides result (Link events.now first second) }
+    ensures { IsTrue result ↔ Link events.now first second }
 {
     let (first, second) = (
         event_numbered(events, first),
         event_numbered(events, second),
     );
-    reaches_at(first) == leaves_at(second) && end_of(first) <= u64::from(second.time())
+    reaches_at(first) == leaves_at(second) && ready_at(first) <= u64::from(starts_at(second))
 }
 
 // Whether the second number may come right after the first.
 fn goes_on(events: &[Event], first: usize, second: usize) -> bool
-    ensures { Decides result ((first < second) × Link events.now first second) }
+    ensures { IsTrue result ↔ ((first < second) × Link events.now first second) }
 {
     first < second && is_link(events, first, second)
 }
 
 // Whether the first of the numbers is that of an event in force, and the second may come right after it.
 fn step_holds(events: &[Event], marks: &[bool], steps: &[usize]) -> bool
-    ensures { Decides result (Next events.now (in_force marks.now) steps.now) }
+    ensures { IsTrue result ↔ Next events.now (is_in_force marks.now) steps.now }
 {
     match steps {
         [] => true,
@@ -101,7 +96,7 @@ fn step_holds(events: &[Event], marks: &[bool], steps: &[usize]) -> bool
 
 // Whether the numbers rise and are those of events in force, each linked to the next.
 fn is_chain(events: &[Event], marks: &[bool], steps: &[usize]) -> bool
-    ensures { Decides result (Chain events.now (in_force marks.now) steps.now) }
+    ensures { IsTrue result ↔ IsChain events.now (is_in_force marks.now) steps.now }
 {
     let mut left = steps;
     while let [_, after @ ..] = left {
@@ -125,9 +120,9 @@ impl Totals {
         ensures bound { minutes event ≤ 65535 }
     {
         match event {
-            Event::Opening { .. } => self.openings += 1,
-            Event::Ride { duration, .. } => {
-                self.riding += u128::from(duration);
+            Event::Opening(_) => self.openings += 1,
+            Event::Ride(ride) => {
+                self.riding += u128::from(ride.duration);
                 self.rides += 1;
             }
         }
@@ -158,24 +153,24 @@ fn label_along<M: Measure>(events: &[Event], begin: M::Label, steps: &[usize]) -
 
 // Whether the first and the last event of a chain, and what it adds up to, are what the query asks for.
 fn meets(query: Query, first: Event, last: Event, totals: Totals) -> bool
-    ensures { Decides result (Asked query first last totals) }
+    ensures { IsTrue result ↔ MeetsQuery query first last totals }
 {
     totals.rides >= 1
         && totals.openings == usize::from(query.call)
         && leaves_at(first) == query.from
         && reaches_at(last) == query.to
-        && query.open <= first.time()
+        && query.open <= starts_at(first)
         && end_of(last) <= u64::from(query.close)
 }
 
-// What a journey that fits is and scores under a measure; none where the steps are not such a journey.
+/// What a journey that fits is and scores under a measure; none where the steps are not such a journey.
 pub fn judge<M: Measure>(
     events: &[Event],
     marks: &[bool],
     query: Query,
     steps: &[usize],
 ) -> Option<Verdict>
-    ensures { Judged M.ops events.now (in_force marks.now) query steps.now result }
+    ensures { IsVerdict M.ops events.now (is_in_force marks.now) query steps.now result }
 {
     let (start, goal) = (*steps.first()?, *steps.last()?);
     if !is_chain(events, marks, steps) {
@@ -187,7 +182,7 @@ pub fn judge<M: Measure>(
     if !meets(query, first, last, totals) {
         return None;
     }
-    let begin = first.time();
+    let begin = starts_at(first);
     let end = end_of(last) as u32;
     let label = label_along::<M>(events, M::begin(begin), steps);
     Some(Verdict {

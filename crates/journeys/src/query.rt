@@ -1,7 +1,7 @@
-// A traveller's question.
+//! A traveller's question.
 use records::Stop;
 
-// From which stop to which, within which minutes, both included, and whether the journey is to call at an open place.
+/// From which stop to which, within which minutes, both included, and whether the journey is to call at an open place.
 #[derive(Clone, Copy, PartialEq, Eq, Debug)]
 pub struct Query {
     pub from: Stop,

@@ -3,6 +3,7 @@ use Rattle.std.proofs.Common.{◌≡◌, ℕ, suc, ◌+◌, ◌-◌, ◌<◌, Li
 use Rattle.std.proofs.lemmas.List.{length-append, map_more, set_at}
 use Rattle.std.proofs.lemmas.List.Sums.{sum_by_push}
 use Rattle.faults.specs.Rules.{Rule}
+use Rattle.records.specs.Limits.{most_lines}
 use Rattle.blocks.specs.Rows.{record_at}
 use Rattle.blocks.proofs.Scans.{in_turn_by_place, rules_in_turn}
 use Rattle.lines.specs.declared.line.Line.{Line}
@@ -26,8 +27,8 @@ behind_by_place rs =
     (λ i h. (rides_more rs i h, ap (λ n. line_rules i (record_at rs i) ++ few_rides i n) (rides_more rs i h)))
 
 -- a line more
-pub table_push : (ls : List Line) (i : ℕ) (l : Line) → length ls ≡ i → i < 32 → set (table ls) i l ≡ table (ls ++ l ∷ [])
+pub table_push : (ls : List Line) (i : ℕ) (l : Line) → length ls ≡ i → i < most_lines → set (table ls) i l ≡ table (ls ++ l ∷ [])
 table_push ls i l e h =
-    let n : 32 - length ls ≡ suc (32 - (i + 1)) = omega arith in
-    let n' : 32 - length (ls ++ l ∷ []) ≡ 32 - (i + 1) = omega (arith, length-append ls (l ∷ [])) in
-    rw (n, n', append_assoc) (set_at ls no_line (replicate (32 - (i + 1)) no_line) l i e)
+    let n : most_lines - length ls ≡ suc (most_lines - (i + 1)) = omega arith in
+    let n' : most_lines - length (ls ++ l ∷ []) ≡ most_lines - (i + 1) = omega (arith, length-append ls (l ∷ [])) in
+    rw (n, n', append_assoc) (set_at ls no_line (replicate (most_lines - (i + 1)) no_line) l i e)

@@ -1,24 +1,23 @@
 -- The timetable of lines as a source's list.
-use Rattle.std.proofs.Common.{◌≡◌, ℕ, zero, suc, ◌+◌, ◌-◌, ◌*◌, ◌<◌, ◌≤◌, true, false, not, ◌&&◌, eqb, leb, List, [], ◌∷◌, ◌++◌, map, length, get_or, drop, replicate, Some, None, sum_by, sym, refl, ap, ◌∙◌, subst, suc-mul, arith}
+use Rattle.std.proofs.Common.{◌≡◌, ℕ, zero, suc, ◌+◌, ◌-◌, ◌*◌, ◌<◌, ◌≤◌, true, false, leb, List, [], ◌∷◌, ◌++◌, map, length, get_or, drop, replicate, Some, None, sum_by, sym, refl, ap, ◌∙◌, subst, suc-mul, arith}
 use Rattle.std.proofs.ByRecursion.{All-append, All-get_or, All-map, All-weaker, all_shuffled}
 use Rattle.std.proofs.lemmas.List.{get_or-map, length-append, length-map, length-replicate}
 use Rattle.std.proofs.lemmas.Option.{slice_get-get_or, slice_get_past}
 use Rattle.std.proofs.lemmas.List.Sorted.{length_permutation}
 use Rattle.std.proofs.lemmas.List.Sums.{sum_by-cons}
-use Rattle.std.proofs.lemmas.Bool.{le-leb}
 use Rattle.std.proofs.lemmas.Bool.Decides.{nat_tests}
 use Rattle.std.specs.List.{AllByRecursion}
-use Rattle.faults.specs.declared.Fault.TheVariants.{EqualStops, DurationOutOfRange, TimeOutOfRange}
-use Rattle.faults.proofs.Rules.{kept_both}
 use Rattle.records.specs.declared.event.Event.{Event}
-use Rattle.records.specs.Events.{Within, in_order}
-use Rattle.queue.specs.Order.{Rising}
+use Rattle.records.specs.Events.{IsWithinLimits, may_precede}
+use Rattle.records.specs.Limits.{last_minute, most_lines, most_stops}
+use Rattle.records.proofs.Bounds.{RideBounds, ride_limits_kept}
+use Rattle.queue.specs.Order.{IsRising}
 use Rattle.sources.specs.Sources.{Reading}
 use Rattle.lines.specs.declared.departure.Departure.{Departure}
 use Rattle.lines.specs.declared.line.Line.{Line}
-use Rattle.lines.specs.Departures.{before, departures, events_on, gather, ride_at, ride_on, run, run_from, runs, sorted}
+use Rattle.lines.specs.Departures.{before, departures, events_on, gather, ride_at, ride_on, run, run_from, runs, sorted_departures}
 use Rattle.lines.specs.Lines.{last_arrival, no_line, rides_of, table}
-use Rattle.lines.specs.Merges.{Drew, beyond, cursor_of}
+use Rattle.lines.specs.Merges.{Draws, end_minute, cursor_of}
 use Rattle.lines.proofs.Orders.{drawn_first, more_behind, no_departure, none_behind, sorted_rising, sorted_shuffled}
 
 -- reading
@@ -29,7 +28,7 @@ module _ (ls : List Line) (p : ℕ) (left left' : List Departure) (bag : (f : De
       let n = none_behind (departures ls) left left' p (sorted_rising (runs ls)) bag e in
       record { same = refl; item = sym (slice_get_past (events_on ls) p (omega arith)); step = omega arith }
 
-  pub reads_one : (x : Departure) → Drew left x left' → Reading (events_on ls) p (Some (ride_on ls x)) (events_on ls) (p + 1)
+  pub reads_one : (x : Departure) → Draws left x left' → Reading (events_on ls) p (Some (ride_on ls x)) (events_on ls) (p + 1)
   reads_one x d =
       let l = length-map (departures ls) (ride_on ls) in
       let h = more_behind (departures ls) left left' p (sorted_rising (runs ls)) bag x d in
@@ -69,13 +68,13 @@ rides_padded ls n (d ∷ ds) =
 
 pub events_on-table : (ls : List Line) → events_on (table ls) ≡ events_on ls
 events_on-table ls =
-    rides_padded ls (32 - length ls) (departures (table ls)) ∙ ap (λ ds. map (ride_on ls) (sorted ds)) (runs_padded ls (32 - length ls) 0)
+    rides_padded ls (most_lines - length ls) (departures (table ls)) ∙ ap (λ ds. map (ride_on ls) (sorted_departures ds)) (runs_padded ls (most_lines - length ls) 0)
 
-pub length-table : (ls : List Line) → length ls ≤ 32 → length (table ls) ≡ 32
-length-table ls h = length-append ls (replicate (32 - length ls) no_line) ∙ omega (arith, length-replicate (32 - length ls) no_line)
+pub length-table : (ls : List Line) → length ls ≤ most_lines → length (table ls) ≡ most_lines
+length-table ls h = length-append ls (replicate (most_lines - length ls) no_line) ∙ omega (arith, length-replicate (most_lines - length ls) no_line)
 
 pub table_at : (ls : List Line) (k : ℕ) → get_or (table ls) k no_line ≡ get_or ls k no_line
-table_at ls k = get_or-padded ls (32 - length ls) k
+table_at ls k = get_or-padded ls (most_lines - length ls) k
 
 -- there is an event for each ride
 length_run_from : (m v i n : ℕ) → length (run_from m v i n) ≡ n
@@ -86,7 +85,7 @@ length_runs : (ls : List Line) (i : ℕ) → length (gather run i ls) ≡ rides_
 length_runs [] i = refl
 length_runs (l ∷ ls) i =
     length-append (run i l) (gather run (i + 1) ls)
-    ∙ omega (arith, length_run_from l.first l.interval i l.rides, length_runs ls (i + 1), sum_by-cons (λ k. k.rides) l ls)
+    ∙ omega (arith, length_run_from l.first.departure l.interval i l.rides, length_runs ls (i + 1), sum_by-cons (λ k. k.rides) l ls)
 
 pub length-events : (ls : List Line) → length (events_on ls) ≡ rides_of ls
 length-events ls =
@@ -94,26 +93,24 @@ length-events ls =
 
 -- the rides of a line within its limits
 pub record Regular (l : Line) : Type 0 where
-  pub apart : not (eqb l.from l.to) ≡ true
-  pub lasting : (leb 1 l.duration && leb l.duration 1440) ≡ true
+  pub ride : RideBounds l.first
   pub riding : 1 ≤ l.rides
-  pub arriving : last_arrival l ≤ 999999
+  pub arriving : last_arrival l ≤ last_minute
   pub narrow : l.interval < 65536
-  pub leaving : l.from < 256
-  pub reaching : l.to < 256
+  pub leaving : l.first.from < most_stops
+  pub reaching : l.first.to < most_stops
 
 all_rides : (l : Line) → 1 ≤ l.rides → l.rides * l.interval ≡ (l.rides - 1) * l.interval + l.interval
 all_rides l h = let e : l.rides ≡ suc (l.rides - 1) = omega arith in ap (λ n. n * l.interval) e ∙ suc-mul (l.rides - 1) l.interval
 
-pub regular_fits : (l : Line) → Regular l → beyond (cursor_of l) < 4294967296
+pub regular_fits : (l : Line) → Regular l → end_minute (cursor_of l) < 4294967296
 regular_fits l r = omega (arith, all_rides l r.riding, r.arriving, r.narrow)
 
-within_ride : (l : Line) (m : ℕ) → Regular l → m + l.interval ≤ l.first + l.rides * l.interval → Within (ride_at l m)
+within_ride : (l : Line) (m : ℕ) → Regular l → m + l.interval ≤ l.first.departure + l.rides * l.interval → IsWithinLimits (ride_at l m)
 within_ride l m r h = (
-  kept_both (not (eqb l.from l.to)) _ (EqualStops 0) r.apart
-      (kept_both (leb 1 l.duration && leb l.duration 1440) _ (DurationOutOfRange 0) r.lasting
-      (kept_both (leb (m + l.duration) 999999) None (TimeOutOfRange 0)
-      (le-leb (m + l.duration) 999999 (omega (arith, all_rides l r.riding, r.arriving))) refl)),
+  ride_limits_kept 0 (record l.first { departure = m })
+      (record { apart = r.ride.apart; lasts = r.ride.lasts; short = r.ride.short })
+      (omega (arith, all_rides l r.riding, r.arriving)),
   (r.leaving, r.reaching),
 )
 
@@ -134,21 +131,21 @@ all_gather P g x₀ (x ∷ xs) i h =
     (all_gather P g x₀ xs (i + 1) (λ k j e l. h (suc k) j (omega arith) (omega arith)))
 
 module _ (ls : List Line) where
-  pub within_events : ((k : ℕ) → k < length ls → Regular (get_or ls k no_line)) → AllByRecursion Within (events_on ls)
+  pub within_events : ((k : ℕ) → k < length ls → Regular (get_or ls k no_line)) → AllByRecursion IsWithinLimits (events_on ls)
   within_events regular =
-      let P : Departure → Type 0 = λ d. Within (ride_on ls d) in
-      All-map Within (ride_on ls) (departures ls)
+      let P : Departure → Type 0 = λ d. IsWithinLimits (ride_on ls d) in
+      All-map IsWithinLimits (ride_on ls) (departures ls)
       (all_shuffled P (runs ls) (departures ls) (sorted_shuffled (runs ls))
       (all_gather P run no_line ls 0
       (λ k j e h.
       let l = get_or ls k no_line in
-      All-weaker (λ d. (d.line ≡ j) × (d.minute + l.interval ≤ l.first + l.rides * l.interval)) P
+      All-weaker (λ d. (d.line ≡ j) × (d.minute + l.interval ≤ l.first.departure + l.rides * l.interval)) P
       (λ d q.
       let at : k ≡ d.line = omega (arith, q.0) in
-      subst (λ n. Within (ride_at (get_or ls n no_line) d.minute)) at (within_ride l d.minute (regular k h) q.1))
-      (run j l) (run_facts l.first l.interval j l.rides))))
+      subst (λ n. IsWithinLimits (ride_at (get_or ls n no_line) d.minute)) at (within_ride l d.minute (regular k h) q.1))
+      (run j l) (run_facts l.first.departure l.interval j l.rides))))
 
-  rising_at : (ds : List Departure) (k j : ℕ) (d : Departure) → Rising before ds → k < j → j < length ds → before (get_or ds j d) (get_or ds k d) ≡ false
+  rising_at : (ds : List Departure) (k j : ℕ) (d : Departure) → IsRising before ds → k < j → j < length ds → before (get_or ds j d) (get_or ds k d) ≡ false
   rising_at [] k j d h a b = absurd (omega arith)
   rising_at (x ∷ xs) k zero d h a b = absurd (omega arith)
   rising_at (x ∷ xs) zero (suc j) d h a b = All-get_or (λ y. before y x ≡ false) xs j d (omega arith) h.0
@@ -157,7 +154,7 @@ module _ (ls : List Line) where
   not_later : (x y : Departure) → before y x ≡ false → leb x.minute y.minute ≡ true
   not_later x y h = grind (arith, nat_tests)
 
-  pub ordered_events : (k : ℕ) (d : Event) → k + 1 < length (events_on ls) → in_order (get_or (events_on ls) k d) (get_or (events_on ls) (k + 1) d) ≡ true
+  pub ordered_events : (k : ℕ) (d : Event) → k + 1 < length (events_on ls) → may_precede (get_or (events_on ls) k d) (get_or (events_on ls) (k + 1) d) ≡ true
   ordered_events k d h =
       let n = length-map (departures ls) (ride_on ls) in
       let i : k < length (departures ls) = omega arith in

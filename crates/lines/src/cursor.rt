@@ -1,6 +1,7 @@
-// Cursors on lines: each has its line's next departure.
+//! Cursors on lines: each has its line's next departure.
 ghost use Rattle.std.specs.Prelude.{◌≡◌, ℕ, ◌+◌, ◌<◌, map, length, slice_index_or, slice_set};
-ghost use Rattle.lines.specs.Merges.{beyond, cursor_of, next_of, no_cursor, onward};
+ghost use Rattle.records.specs.Limits.{most_lines};
+ghost use Rattle.lines.specs.Merges.{end_minute, cursor_of, next_of, no_cursor, next_cursor};
 
 use crate::departure::Departure;
 use crate::line::Line;
@@ -20,7 +21,7 @@ impl Cursor {
         ensures { result ≡ cursor_of line }
     {
         Cursor {
-            minute: line.first,
+            minute: line.first.departure,
             interval: line.interval,
             left: line.rides,
         }
@@ -43,7 +44,7 @@ impl Cursor {
     fn onward(self) -> Cursor
         requires ride { 0 < self.left }
         requires fits { self.minute + self.interval < 4294967296 }
-        ensures { result ≡ onward self }
+        ensures { result ≡ next_cursor self }
     {
         Cursor {
             minute: self.minute + u32::from(self.interval),
@@ -58,8 +59,8 @@ impl Cursor {
 #[derive(Clone, Copy)]
 pub(crate) struct Cursors {
     pub table: [Cursor; MOST_LINES],
-    ghost all: { length table ≡ 32 },
-    ghost fits: { (k : ℕ) → beyond (slice_index_or table k no_cursor) < 4294967296 },
+    ghost all: { length table ≡ most_lines },
+    ghost fits: { (k : ℕ) → end_minute (slice_index_or table k no_cursor) < 4294967296 },
 }
 
 impl Cursors {
@@ -74,10 +75,12 @@ impl Cursors {
 
     // Moves the cursor of one line one departure further, and no other, and answers its next departure then.
     pub(crate) fn advance(&mut self, line: usize) -> Option<Departure>
-        requires known { line < 32 }
+        requires known { line < most_lines }
         requires ride { 0 < (slice_index_or self.old.table line no_cursor).left }
-        ensures after { self.new.table ≡ slice_set self.old.table line (onward (slice_index_or self.old.table line no_cursor)) }
-        ensures next { result ≡ next_of line (onward (slice_index_or self.old.table line no_cursor)) }
+        ensures after { let cursor = slice_index_or self.old.table line no_cursor in
+            self.new.table ≡ slice_set self.old.table line (next_cursor cursor) }
+        ensures next { let cursor = slice_index_or self.old.table line no_cursor in
+            result ≡ next_of line (next_cursor cursor) }
     {
         let cursor = self.table[line].onward();
         self.table[line] = cursor;

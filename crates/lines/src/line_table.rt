@@ -1,18 +1,19 @@
-// A table of the lines of a block.
+//! A table of the lines of a block.
 ghost use Rattle.std.specs.Prelude.{◌≡◌, ℕ, ◌<◌, length, slice_index_or};
 ghost use Rattle.std.proofs.Props.{props};
 ghost use Rattle.std.specs.Result.{result_map_both};
-ghost use Rattle.faults.specs.Rules.{judged};
-ghost use Rattle.records.specs.Events.{Listed, Stops-prop};
+ghost use Rattle.faults.specs.Rules.{ruling};
+ghost use Rattle.records.specs.Events.{IsTimetable, HasStops-prop};
+ghost use Rattle.records.specs.Limits.{most_lines};
 ghost use Rattle.lines.specs.Departures.{events_on, ride_on};
 ghost use Rattle.lines.specs.Lines.{block_rules, lines_of, no_line, table};
-ghost use Rattle.lines.specs.Merges.{beyond, cursor_of};
+ghost use Rattle.lines.specs.Merges.{end_minute, cursor_of};
 
 use crate::departure::Departure;
 use crate::line::{Line, read_after};
 use blocks::rows;
 use faults::Fault;
-use records::Event;
+use records::{Event, Ride};
 
 // The most lines that a block may have.
 pub(crate) const MOST_LINES: usize = 32;
@@ -20,10 +21,12 @@ pub(crate) const MOST_LINES: usize = 32;
 // What stands in the part of a table that holds no line. A derived default was tried: it answers by a fact, and the table is
 // compared slot by slot.
 const NO_LINE: Line = Line {
-    from: 0,
-    to: 0,
-    first: 0,
-    duration: 0,
+    first: Ride {
+        from: 0,
+        to: 0,
+        departure: 0,
+        duration: 0,
+    },
     interval: 0,
     rides: 0,
 };
@@ -33,16 +36,18 @@ const NO_LINE: Line = Line {
 pub(crate) struct LineTable {
     pub lines: [Line; MOST_LINES],
     pub rides: usize,
-    ghost all: { length lines ≡ 32 },
+    ghost all: { length lines ≡ most_lines },
     ghost size: { rides ≡ length (events_on lines) },
-    ghost listed: { Listed (events_on lines) } by { Prim.hlevel (props, Stops-prop) },
-    ghost fits: { (k : ℕ) → beyond (cursor_of (slice_index_or lines k no_line)) < 4294967296 },
+    ghost listed: { IsTimetable (events_on lines) } by { Prim.hlevel (props, HasStops-prop) },
+    ghost fits: { (k : ℕ) →
+        end_minute (cursor_of (slice_index_or lines k no_line)) < 4294967296 },
 }
 
 impl LineTable {
     // Opens any bytes as a block of lines: a table of them, or the first rule broken.
     pub(crate) fn open(bytes: &[u8]) -> Result<LineTable, Fault>
-        ensures { result_map_both (λ t. t.lines) (λ f. f) result ≡ judged (block_rules bytes.now) (table (lines_of bytes.now)) }
+        ensures { result_map_both (λ t. t.lines) (λ f. f) result
+            ≡ ruling (block_rules bytes.now) (table (lines_of bytes.now)) }
     {
         let rows = rows::<MOST_LINES>(bytes)?;
         let mut lines = [NO_LINE; MOST_LINES];
@@ -58,15 +63,12 @@ impl LineTable {
 
     // The ride of a departure.
     pub(crate) fn ride_on(&self, departure: Departure) -> Event
-        requires { departure.line < 32 }
+        requires { departure.line < most_lines }
         ensures { result ≡ ride_on self.now.lines departure }
     {
-        let line = self.lines[departure.line];
-        Event::Ride {
-            from: line.from,
-            to: line.to,
+        Event::Ride(Ride {
             departure: departure.minute,
-            duration: line.duration,
-        }
+            ..self.lines[departure.line].first
+        })
     }
 }

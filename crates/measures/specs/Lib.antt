@@ -1,2 +1,2 @@
+pub mod Criteria
 pub mod Measures
-pub mod Six

@@ -7,10 +7,11 @@
 --                      (no_worse), and the score of a journey with a label that is over in a minute (settle)
 --     Laws m           what a measure m has to prove of its functions. Of any two labels one is no worse than
 --                      the other (total), and no worse than no worse is no worse (transitive). A label that
---                      is no worse than another is no worse after both take the same ride, of 1 to 1,440
+--                      is no worse than another is no worse after both take the same ride, of 1 to longest_ride
 --                      minutes (rides), and has no higher score where both are settled in the same minute, up
---                      to 999,999 (settles)
+--                      to last_minute (settles)
 use Rattle.std.specs.Prelude.{ℕ, ◌≤◌, ℤ, ◌<ℤ◌, ◌≤ℤ◌, Bool, true, ◌⊎◌, ◌≡◌}
+use Rattle.records.specs.Limits.{last_minute, longest_ride}
 
 abbrev pub Score : Type 0
 Score = ℤ × ℤ
@@ -28,5 +29,5 @@ pub record Ops (L : Type 0) : Type 0 where
 pub record Laws {L : Type 0} (m : Ops L) : Type 0 where
   pub total : (a b : L) → (m.no_worse a b ≡ true) ⊎ (m.no_worse b a ≡ true)
   pub transitive : (a b c : L) → m.no_worse a b ≡ true → m.no_worse b c ≡ true → m.no_worse a c ≡ true
-  pub rides : (a b : L) (d : ℕ) → 1 ≤ d → d ≤ 1440 → m.no_worse a b ≡ true → m.no_worse (m.ride a d) (m.ride b d) ≡ true
-  pub settles : (a b : L) (t : ℕ) → t ≤ 999999 → m.no_worse a b ≡ true → m.settle a t ≼ m.settle b t
+  pub rides : (a b : L) (d : ℕ) → 1 ≤ d → d ≤ longest_ride → m.no_worse a b ≡ true → m.no_worse (m.ride a d) (m.ride b d) ≡ true
+  pub settles : (a b : L) (t : ℕ) → t ≤ last_minute → m.no_worse a b ≡ true → m.settle a t ≼ m.settle b t

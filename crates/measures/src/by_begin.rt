@@ -1,19 +1,20 @@
-// Measures whose label is the begin; they differ in how it is settled.
+//! Measures whose label is the begin; they differ in how it is settled.
 ghost use Rattle.std.specs.Prelude.{◌≡◌, pos, ◌-ℤ◌};
-ghost use Rattle.measures.specs.Six.{earliest, latest};
+ghost use Rattle.measures.specs.Criteria.{earliest, latest};
 ghost use Rattle.std.proofs.Common.{rules};
+ghost use Rattle.records.specs.Limits.{last_minute};
 
 use crate::measure::Measure;
 use records::LAST_MINUTE;
 
 // The minutes from a minute to the last one that a timetable has.
 fn before_the_last(minute: u32) -> i64
-    ensures { result ≡ pos 999999 -ℤ pos minute }
+    ensures { result ≡ pos last_minute -ℤ pos minute }
 {
     i64::from(LAST_MINUTE) - i64::from(minute)
 }
 
-// Letter e: the end, then the later begin.
+/// The end, then the later begin. The label is the begin.
 pub struct EarliestArrival;
 
 impl Measure for EarliestArrival {
@@ -40,7 +41,7 @@ impl Measure for EarliestArrival {
     }
 }
 
-// Letter l: the later begin, then the end.
+/// The later begin, then the end. The label is the begin.
 pub struct LatestDeparture;
 
 impl Measure for LatestDeparture {

@@ -1,10 +1,10 @@
-// The measure whose label counts the rides.
-ghost use Rattle.measures.specs.Six.{fewest_rides};
+//! The measure whose label counts the rides.
+ghost use Rattle.measures.specs.Criteria.{fewest_rides};
 ghost use Rattle.std.proofs.Common.{rules};
 
 use crate::measure::Measure;
 
-// Letter n: the number of rides, then the end.
+/// The number of rides, then the end. The label is that number.
 pub struct FewestRides;
 
 impl Measure for FewestRides {

@@ -1,10 +1,10 @@
-// Measures whose label grows by the minutes ridden; they differ in where it begins, how it compares and how it is settled.
-ghost use Rattle.measures.specs.Six.{least_riding, least_waiting};
+//! Measures whose label grows by the minutes ridden; they differ in where it begins, how it compares and how it is settled.
+ghost use Rattle.measures.specs.Criteria.{least_riding, least_waiting};
 ghost use Rattle.std.proofs.Common.{rules};
 
 use crate::measure::Measure;
 
-// Letter s: the riding, then the end.
+/// The riding, then the end. The label is the riding.
 pub struct LeastRiding;
 
 impl Measure for LeastRiding {
@@ -31,7 +31,7 @@ impl Measure for LeastRiding {
     }
 }
 
-// Letter c: the waiting, then the end. The label is the begin plus the riding, the end if nothing was waited for.
+/// The waiting, then the end. The label is the begin plus the riding, the end if nothing was waited for.
 pub struct LeastWaiting;
 
 impl Measure for LeastWaiting {

@@ -1,18 +1,18 @@
-// The measure whose label is begin and riding.
-ghost use Rattle.measures.specs.Six.{fastest};
+//! The measure whose label is begin and riding.
+ghost use Rattle.measures.specs.Criteria.{fastest};
 ghost use Rattle.std.proofs.Common.{rules};
 
 use crate::measure::Measure;
 use std::cmp::Reverse;
 
-// When a journey began, and the minutes ridden so far.
+/// When a journey began, and the minutes ridden so far.
 #[derive(Clone, Copy, PartialEq, Eq, Debug, Default)]
 pub struct Trip {
     pub begin: u32,
     pub riding: u32,
 }
 
-// Letter f: the minutes from begin to end, then the riding.
+/// The minutes from begin to end, then the riding. The label is begin and riding.
 pub struct Fastest;
 
 impl Measure for Fastest {

@@ -1,33 +1,38 @@
-// What the traits mean at the six measures, and at a trip.
+//! What the traits mean at the measures, at a trip and at a criterion.
 ghost use Rattle.std.specs.Prelude.{◌≡◌, IsTrue, ◌↔◌};
 ghost use Rattle.measures.specs.declared.by_trip.Trip.{Trip};
-ghost use Rattle.measures.specs.Six.{earliest, fastest, fewest_rides, latest, least_riding, least_waiting};
+ghost use Rattle.measures.specs.declared.criterion.Criterion.{Criterion};
+ghost use Rattle.measures.specs.Criteria.{ops};
 
 use crate::by_begin::{EarliestArrival, LatestDeparture};
 use crate::by_rides::FewestRides;
 use crate::by_riding::{LeastRiding, LeastWaiting};
 use crate::by_trip::{Fastest, Trip};
+use crate::criterion::Criterion;
 use crate::measure::Measure;
 
-/// Each of the six measures is the one that its letter names.
+/// Each measure has the functions of its criterion.
 pub fn measures_are_defined()
-    ensures earliest { ⟦<EarliestArrival as Measure>⟧.ops ≡ earliest }
-    ensures latest { ⟦<LatestDeparture as Measure>⟧.ops ≡ latest }
-    ensures fastest { ⟦<Fastest as Measure>⟧.ops ≡ fastest }
-    ensures least_riding { ⟦<LeastRiding as Measure>⟧.ops ≡ least_riding }
-    ensures fewest_rides { ⟦<FewestRides as Measure>⟧.ops ≡ fewest_rides }
-    ensures least_waiting { ⟦<LeastWaiting as Measure>⟧.ops ≡ least_waiting }
+    ensures earliest { ⟦<EarliestArrival as Measure>⟧.ops ≡ ops Criterion.EarliestArrival }
+    ensures latest { ⟦<LatestDeparture as Measure>⟧.ops ≡ ops Criterion.LatestDeparture }
+    ensures fastest { ⟦<Fastest as Measure>⟧.ops ≡ ops Criterion.Fastest }
+    ensures least_riding { ⟦<LeastRiding as Measure>⟧.ops ≡ ops Criterion.LeastRiding }
+    ensures fewest_rides { ⟦<FewestRides as Measure>⟧.ops ≡ ops Criterion.FewestRides }
+    ensures least_waiting { ⟦<LeastWaiting as Measure>⟧.ops ≡ ops Criterion.LeastWaiting }
 {}
 
-/// Two trips compare equal exactly where they are the same.
+/// Two trips, and two criteria, compare equal exactly where they are the same.
 pub fn equality_is_identity()
-    ensures { (a b : Trip) → IsTrue (⟦<Trip as PartialEq>⟧.eq a b) ↔ (a ≡ b) }
+    ensures trips { (a b : Trip) → IsTrue (⟦<Trip as PartialEq>⟧.eq a b) ↔ (a ≡ b) }
+    ensures criteria { (a b : Criterion) → IsTrue (⟦<Criterion as PartialEq>⟧.eq a b) ↔ (a ≡ b) }
 {}
 
-/// The clone of a trip is the same, and is never refused.
+/// The clone of a trip, and of a criterion, is the same, and is never refused.
 pub fn clone_is_identity()
-    ensures { let clones = ⟦<Trip as Clone>⟧ in
+    ensures trips { let clones = ⟦<Trip as Clone>⟧ in
         (a b : Trip) → clones.is_infallible a × (clones.is_clone a b → b ≡ a) }
+    ensures criteria { let clones = ⟦<Criterion as Clone>⟧ in
+        (a b : Criterion) → clones.is_infallible a × (clones.is_clone a b → b ≡ a) }
 {}
 
 /// The default trip began in minute 0, and nothing was ridden.

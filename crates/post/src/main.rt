@@ -1,4 +1,4 @@
-// The program of a post: reads the day's records, and then answers what it is asked on standard input, line by line.
+//! The program of a post: reads the day's records, and then answers what it is asked on standard input, line by line.
 #![tactic(auto)]
 
 use conversations::serve_file;

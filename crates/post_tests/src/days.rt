@@ -1,4 +1,4 @@
-// Sources of events, and the place of one.
+//! Sources of events, and the place of one.
 use blocks::Load;
 use faults::Fault;
 use lines::LineSource;
@@ -7,14 +7,14 @@ use sources::{RecordSource, Source};
 use std::iter;
 use worked_scores::{WORKED_LINES, worked_events};
 
-// The two lines of the worked day.
-pub fn two_lines() -> Result<LineSource, Fault> {
+/// The lines of the worked day.
+pub fn worked_line_source() -> Result<LineSource, Fault> {
     LineSource::open(&WORKED_LINES)
 }
 
-// The records of the worked day, loaded into memory, which is what a load is there for; other programs put them in a vector. The
-// programs `worked_day` and `searching` have these few lines too: one text for all would be public, and would have to say what a
-// refusal leaves in the middle.
+/// The records of the worked day, loaded into memory, which is what a load is there for; other programs put them in a vector. The
+/// programs `worked_day` and `trial_search` have these few lines too: one text for all would be public, and would have to say what a
+/// refusal leaves in the middle.
 pub fn worked_day() -> Result<RecordSource, Fault> {
     let mut memory = [0; 112];
     let mut load = Load::new(&mut memory);
@@ -25,7 +25,7 @@ pub fn worked_day() -> Result<RecordSource, Fault> {
     RecordSource::open(&memory)
 }
 
-// The place of a source, told by how many events are left to be read.
+/// The place of a source, told by how many events are left to be read.
 pub fn place_of<S: Source>(source: &mut S) -> usize {
     let size = source.size();
     let left = iter::from_fn(|| source.next()).take(size).count();

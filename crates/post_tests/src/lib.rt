@@ -1,10 +1,10 @@
+//! Tests of a post: notices, queries and refusals, over lines, over records and over no event.
 #![tactic(auto)]
 
-// Tests of a post: notices, queries and refusals, over lines, over records and over no event.
-#[cfg(test)]
-mod asking;
 #[cfg(test)]
 mod days;
+#[cfg(test)]
+mod queries;
 #[cfg(test)]
 mod rubbish;
 #[cfg(test)]

@@ -1,9 +1,10 @@
-// What the tables have in them before a query, so that a slot that was written is told from one that was not.
-use heap_tables::{HeapTables, NO_EVENT, NONSENSE, Slots, is_nonsense_behind};
+//! What the tables have in them before a query, so that a slot that was written is told from one that was not.
+use heap_tables::{HeapTables, Slots};
+use scans::{Arrival, Entry, Incumbent, Stage};
 use search::Carried;
-use steps::{Arrival, Entry, Stage, Standing};
+use test_filling::{NO_EVENT, NONSENSE, is_nonsense_behind};
 
-// What no query writes. The program `searching` has other rubbish: what a search might take for its own.
+/// What no query writes. The program `trial_search` has other rubbish: what a search might take for its own.
 pub fn rubbish() -> Slots<u32> {
     let label = Carried {
         label: 2,
@@ -18,11 +19,11 @@ pub fn rubbish() -> Slots<u32> {
     Slots {
         entry: Some(Entry {
             label,
-            origin: Some(nowhere),
+            predecessor: Some(nowhere),
             stop: 6,
             end: 7,
         }),
-        standing: Some(Standing {
+        incumbent: Some(Incumbent {
             label,
             event: NO_EVENT,
         }),
@@ -34,16 +35,16 @@ pub fn rubbish() -> Slots<u32> {
     }
 }
 
-// Whether there is rubbish in each slot of all tables.
+/// Whether there is rubbish in each slot of all tables.
 pub fn are_spoilt(tables: &HeapTables<u32>) -> bool {
     let Slots {
         entry,
-        standing,
+        incumbent,
         arrival,
         ..
     } = rubbish();
     tables.log.iter().all(|slot| *slot == entry)
-        && tables.board.iter().all(|slot| *slot == standing)
+        && tables.board.iter().all(|slot| *slot == incumbent)
         && tables.queue.iter().all(|slot| *slot == arrival)
         && is_nonsense_behind(&tables.steps, 0)
 }

@@ -1,25 +1,25 @@
-// The tests, each with tables of calls and of their right answers.
-use crate::asking::Letter::{E, L};
-use crate::asking::{Letter, ask, from_to};
-use crate::days::{place_of, two_lines, worked_day};
+//! The tests, each with tables of calls and of their right answers.
+use crate::days::{place_of, worked_day, worked_line_source};
+use crate::queries::Letter::{E, L};
+use crate::queries::{Letter, ask, from_to};
 use crate::rubbish::{are_spoilt, rubbish};
 use faults::{Fault, Report};
-use heap_tables::{HeapTables, Lengths, NONSENSE, is_nonsense_behind};
-use journeys::Verdict;
+use heap_tables::{HeapTables, Lengths};
+use journeys::{Answer, Verdict};
 use lines::LineSource;
-use search::Answer;
 use sources::{RecordSource, Source};
 use std::alloc::Global;
 use std::process::Abort;
 use std::test::Fail;
+use test_filling::{NONSENSE, is_nonsense_behind};
 use timetable_post::Post;
 
 // A measure, the stop to reach, the numbers that the answer has for the best journey from stop 1 within 100 to 200, and the
 // journey.
 type Row<'a> = (Letter, u8, Answer, &'a [usize]);
 
-// The answer for a journey without a call, whose steps are rides: six numbers of a row.
-fn told(
+// The answer for a trip, a journey without a call, whose steps are rides: six numbers of a row.
+fn trip(
     begin: u32,
     end: u32,
     riding: u32,
@@ -41,7 +41,7 @@ fn told(
 }
 
 // Tables of these lengths, log, board, queue and step table, with rubbish in each slot.
-fn spoilt(heap: Global, lengths: [usize; 4]) -> Result<HeapTables<u32>, Fail> {
+fn spoilt_tables(heap: Global, lengths: [usize; 4]) -> Result<HeapTables<u32>, Fail> {
     let [log, board, queue, steps] = lengths;
     let lengths = Lengths {
         log,
@@ -64,10 +64,10 @@ fn check_rows(
     tables: &mut HeapTables<u32>,
     rows: &[Row],
 ) {
-    for (letter, to, told, journey) in rows {
+    for (letter, to, wanted, journey) in rows {
         tables.steps.fill(NONSENSE);
         let answer = ask(post, *letter, from_to(1, *to, 100, 200), tables);
-        assert_eq!(rt; answer, Ok(*told));
+        assert_eq!(rt; answer, Ok(*wanted));
         check_named(rt, tables, journey);
     }
 }
@@ -75,19 +75,19 @@ fn check_rows(
 #[test]
 fn lines_through_notices(rt: HostRuntime) -> Result<(), Fail> {
     let all_in_force: [Row; 4] = [
-        (E, 3, told(115, 155, 30, 2, (155, 999_884), 5), &[1, 4]),
-        (L, 3, told(115, 155, 30, 2, (999_884, 155), 5), &[1, 4]),
-        (E, 2, told(100, 120, 20, 1, (120, 999_899), 5), &[0]),
-        (L, 2, told(130, 150, 20, 1, (999_869, 150), 5), &[3]),
+        (E, 3, trip(115, 155, 30, 2, (155, 999_884), 5), &[1, 4]),
+        (L, 3, trip(115, 155, 30, 2, (999_884, 155), 5), &[1, 4]),
+        (E, 2, trip(100, 120, 20, 1, (120, 999_899), 5), &[0]),
+        (L, 2, trip(130, 150, 20, 1, (999_869, 150), 5), &[3]),
     ];
     let without_1: [Row; 4] = [
-        (E, 3, told(100, 155, 30, 2, (155, 999_899), 5), &[0, 4]),
-        (L, 3, told(100, 155, 30, 2, (999_899, 155), 5), &[0, 4]),
-        (E, 2, told(100, 120, 20, 1, (120, 999_899), 5), &[0]),
-        (L, 2, told(130, 150, 20, 1, (999_869, 150), 5), &[3]),
+        (E, 3, trip(100, 155, 30, 2, (155, 999_899), 5), &[0, 4]),
+        (L, 3, trip(100, 155, 30, 2, (999_899, 155), 5), &[0, 4]),
+        (E, 2, trip(100, 120, 20, 1, (120, 999_899), 5), &[0]),
+        (L, 2, trip(130, 150, 20, 1, (999_869, 150), 5), &[3]),
     ];
-    let mut tables = spoilt(rt.alloc(), [10, 512, 10, 5])?;
-    let mut post = Post::put_up(two_lines()?);
+    let mut tables = spoilt_tables(rt.alloc(), [10, 512, 10, 5])?;
+    let mut post = Post::put_up(worked_line_source()?);
     check_rows(&rt, &mut post, &mut tables, &all_in_force);
     post.withdraw(1)?;
     assert_eq!(rt; post.tally(), 1);
@@ -151,7 +151,7 @@ fn refused_queries(rt: HostRuntime) -> Result<(), Fail> {
     let mut post = Post::put_up(source);
     post.withdraw(0)?;
     for (query, lengths, number) in table {
-        let mut tables = spoilt(rt.alloc(), lengths)?;
+        let mut tables = spoilt_tables(rt.alloc(), lengths)?;
         assert_eq!(rt;
             ask(&mut post, E, query, &mut tables),
             Err(Report::new(number, 6, 0))
@@ -192,7 +192,7 @@ fn check_windows(rt: &impl Abort, post: &mut Post<RecordSource>, tables: &mut He
 // The events that are withdrawn are those at which reading ends.
 #[test]
 fn windows_and_reads(rt: HostRuntime) -> Result<(), Fail> {
-    let mut tables = spoilt(rt.alloc(), [14, 512, 14, 7])?;
+    let mut tables = spoilt_tables(rt.alloc(), [14, 512, 14, 7])?;
     let mut post = Post::put_up(worked_day()?);
     check_windows(&rt, &mut post, &mut tables);
     for event in [1, 3, 5, 6] {
@@ -209,7 +209,7 @@ fn check_nothing_fits<S: Source + Drop>(
     heap: Global,
     source: S,
 ) -> Result<(), Fail> {
-    let mut tables = spoilt(heap, [0, 512, 0, 0])?;
+    let mut tables = spoilt_tables(heap, [0, 512, 0, 0])?;
     let mut post = Post::put_up(source);
     assert_eq!(rt;
         post.withdraw(0).map_err(Report::from),

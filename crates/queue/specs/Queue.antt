@@ -1,10 +1,10 @@
 -- What one call does to a queue: slots, and a count of those in use. Assumes nothing.
---     held slots used                  what the queue holds: its first used slots, or all where there are fewer
---     Added slots used x ..            x came in, and a slot more is in use
---     Refused slots used fault ..      every slot is in use, and nothing changed
---     Taken slots used x ..            x went out, and its slot is free
---     Empty slots used ..              nothing is held, and nothing changed
---     Seen slots used x                x is held, and is the next to be taken
+--     elements slots used              what the queue holds: its first used slots, or all where there are fewer
+--     Adds slots used x ..             x came in, and a slot more is in use
+--     Refuses slots used fault ..      every slot is in use, and nothing changed
+--     Takes slots used x ..            x went out, and its slot is free
+--     HoldsNone slots used ..          nothing is held, and nothing changed
+--     IsNext slots used x              x is held, and is the next to be taken
 --     Putting slots used x answer ..   what `put` does, by its answer
 --     Taking slots used answer ..      what `take` does, by its answer
 --     Peeking slots used answer        what `peek` answers
@@ -22,53 +22,53 @@ use Rattle.std.specs.Prelude.{◌≡◌, ℕ, ◌+◌, ◌<◌, ◌≤◌, min, 
 use Rattle.std.specs.List.Sorted.{IsPermutation}
 use Rattle.faults.specs.declared.Fault.{Fault}
 use Rattle.faults.specs.declared.Fault.TheVariants.{WorkTableTooShort}
-use Rattle.queue.specs.Order.{Connected, Least, Heaped}
+use Rattle.queue.specs.Order.{IsConnected, IsLeast, IsHeapOrdered}
 
-abbrev pub held : {X : Type 0} → List X → ℕ → List X
-held slots used = take used slots
+abbrev pub elements : {X : Type 0} → List X → ℕ → List X
+elements slots used = take used slots
 
-pub record Refused {X : Type 0} (slots : List X) (used : ℕ) (fault : Fault) (slots' : List X) (used' : ℕ) : Type 0 where
+pub record Refuses {X : Type 0} (slots : List X) (used : ℕ) (fault : Fault) (slots' : List X) (used' : ℕ) : Type 0 where
   pub fault_is : fault ≡ WorkTableTooShort
   pub full : length slots ≤ used
   pub slots_same : slots' ≡ slots
   pub used_same : used' ≡ used
 
-pub record Empty {X : Type 0} (slots : List X) (used : ℕ) (slots' : List X) (used' : ℕ) : Type 0 where
+pub record HoldsNone {X : Type 0} (slots : List X) (used : ℕ) (slots' : List X) (used' : ℕ) : Type 0 where
   pub none : min used (length slots) ≡ 0
   pub slots_same : slots' ≡ slots
   pub used_same : used' ≡ used
 
 module _ {X : Type 0} (before : X → X → Bool) where
-  pub record Added (slots : List X) (used : ℕ) (x : X) (slots' : List X) (used' : ℕ) : Type 0 where
+  pub record Adds (slots : List X) (used : ℕ) (x : X) (slots' : List X) (used' : ℕ) : Type 0 where
     pub room : used < length slots
     pub count : used' ≡ used + 1
-    pub bag : IsPermutation (held slots used ++ x ∷ []) (held slots' used')
+    pub bag : IsPermutation (elements slots used ++ x ∷ []) (elements slots' used')
     pub beyond : drop used' slots' ≡ drop used' slots
     pub long : length slots' ≡ length slots
-    pub heaped : Heaped before (held slots used) → Heaped before (held slots' used')
+    pub heaped : IsHeapOrdered before (elements slots used) → IsHeapOrdered before (elements slots' used')
 
-  pub record Taken (slots : List X) (used : ℕ) (x : X) (slots' : List X) (used' : ℕ) : Type 0 where
+  pub record Takes (slots : List X) (used : ℕ) (x : X) (slots' : List X) (used' : ℕ) : Type 0 where
     pub count : used' + 1 ≡ min used (length slots)
-    pub bag : IsPermutation (held slots used) (x ∷ held slots' used')
+    pub bag : IsPermutation (elements slots used) (x ∷ elements slots' used')
     pub beyond : drop used' slots' ≡ x ∷ drop used slots
     pub long : length slots' ≡ length slots
-    pub heaped : Heaped before (held slots used) → Heaped before (held slots' used')
-    pub least : Heaped before (held slots used) → Least before x (held slots used)
-    pub only : Connected before → Heaped before (held slots used) → (y : X) → Least before y (held slots used) → y ≡ x
+    pub heaped : IsHeapOrdered before (elements slots used) → IsHeapOrdered before (elements slots' used')
+    pub least : IsHeapOrdered before (elements slots used) → IsLeast before x (elements slots used)
+    pub only : IsConnected before → IsHeapOrdered before (elements slots used) → (y : X) → IsLeast before y (elements slots used) → y ≡ x
 
-  pub record Seen (slots : List X) (used : ℕ) (x : X) : Type 0 where
+  pub record IsNext (slots : List X) (used : ℕ) (x : X) : Type 0 where
     pub some : 0 < min used (length slots)
     pub next : (d : X) → slice_index_or slots 0 d ≡ x
-    pub least : Heaped before (held slots used) → Least before x (held slots used)
+    pub least : IsHeapOrdered before (elements slots used) → IsLeast before x (elements slots used)
 
   abbrev pub Putting : List X → ℕ → X → Result (Unit {0}) Fault → List X → ℕ → Type 0
-  Putting slots used x (Ok _) slots' used' = Added slots used x slots' used'
-  Putting slots used x (Err fault) slots' used' = Refused slots used fault slots' used'
+  Putting slots used x (Ok _) slots' used' = Adds slots used x slots' used'
+  Putting slots used x (Err fault) slots' used' = Refuses slots used fault slots' used'
 
   abbrev pub Peeking : List X → ℕ → Option X → Type 0
-  Peeking slots used (Some x) = Seen slots used x
+  Peeking slots used (Some x) = IsNext slots used x
   Peeking slots used None = min used (length slots) ≡ 0
 
   abbrev pub Taking : List X → ℕ → Option X → List X → ℕ → Type 0
-  Taking slots used (Some x) slots' used' = Taken slots used x slots' used'
-  Taking slots used None slots' used' = Empty slots used slots' used'
+  Taking slots used (Some x) slots' used' = Takes slots used x slots' used'
+  Taking slots used None slots' used' = HoldsNone slots used slots' used'

@@ -5,14 +5,14 @@
 --     Run before n bag cs bag'        it answers the calls cs in turn
 --     PriorityQueue before s          any calls, begun on an empty queue over the slots s, are answered as by a priority queue
 --                                     with room for as many elements, which then holds what the queue holds, as many as the count
---     Drained before s                after such calls, taking until none is left gives what was held, rising
+--     DrainsRising before s           after such calls, taking until none is left gives what was held, rising
 -- A bag is a list of which the order tells nothing.
 use Rattle.std.specs.Prelude.{◌≡◌, ℕ, ◌<◌, ◌≤◌, Bool, List, [], ◌∷◌, ◌++◌, map, length, Some, None, Ok, Err, Option, Result}
 use Rattle.std.specs.List.Sorted.{IsPermutation}
 use Rattle.faults.specs.declared.Fault.{Fault}
 use Rattle.faults.specs.declared.Fault.TheVariants.{WorkTableTooShort}
-use Rattle.queue.specs.Order.{Least, Rising}
-use Rattle.queue.specs.Queue.{held, Putting, Taking}
+use Rattle.queue.specs.Order.{IsLeast, IsRising}
+use Rattle.queue.specs.Queue.{elements, Putting, Taking}
 
 pub data Call (X : Type 0) : Type 0 where
   puts : X → Result (Unit {0}) Fault → Call X
@@ -27,7 +27,7 @@ module _ {X : Type 0} (before : X → X → Bool) where
   abbrev pub Answers : ℕ → List X → Call X → List X → Type 0
   Answers room bag (puts x (Ok _)) bag' = (length bag < room) × IsPermutation (x ∷ bag) bag'
   Answers room bag (puts x (Err fault)) bag' = (room ≤ length bag) × (fault ≡ WorkTableTooShort) × IsPermutation bag bag'
-  Answers room bag (takes (Some x)) bag' = Least before x bag × IsPermutation bag (x ∷ bag')
+  Answers room bag (takes (Some x)) bag' = IsLeast before x bag × IsPermutation bag (x ∷ bag')
   Answers room bag (takes None) bag' = (bag ≡ []) × (bag' ≡ [])
 
   abbrev pub Run : ℕ → List X → List (Call X) → List X → Type 0
@@ -36,9 +36,9 @@ module _ {X : Type 0} (before : X → X → Bool) where
 
   abbrev pub PriorityQueue : List X → Type 0
   PriorityQueue slots = (calls : List (Call X)) (slots' : List X) (used' : ℕ)
-      → Calls slots 0 calls slots' used' → Run (length slots) [] calls (held slots' used') × (length (held slots' used') ≡ used')
+      → Calls slots 0 calls slots' used' → Run (length slots) [] calls (elements slots' used') × (length (elements slots' used') ≡ used')
 
-  abbrev pub Drained : List X → Type 0
-  Drained slots = (calls : List (Call X)) (slots' : List X) (used' : ℕ) (ys : List X) (slots'' : List X) (used'' : ℕ)
+  abbrev pub DrainsRising : List X → Type 0
+  DrainsRising slots = (calls : List (Call X)) (slots' : List X) (used' : ℕ) (ys : List X) (slots'' : List X) (used'' : ℕ)
       → Calls slots 0 calls slots' used' → Calls slots' used' (map (λ y. takes (Some y)) ys ++ takes None ∷ []) slots'' used''
-      → Rising before ys × IsPermutation (held slots' used') ys
+      → IsRising before ys × IsPermutation (elements slots' used') ys

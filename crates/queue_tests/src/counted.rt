@@ -1,11 +1,11 @@
-// A key that counts how often it is compared; equal keys tie.
+//! A key that counts how often it is compared; equal keys tie.
 ghost use Rattle.std.specs.Prelude.{nat_lt};
 ghost use Rattle.std.proofs.Common.{rules};
 
 use queue::Precedence;
 use std::cell::Cell;
 
-// Something that is told of each comparison.
+/// Something that is told of each comparison.
 pub trait Counter: Clone + Copy {
     fn count(&self);
 

@@ -1,4 +1,4 @@
-// A key with a tag, ordered by the key and then by the tag: no two elements tie.
+//! A key with a tag, ordered by the key and then by the tag: no two elements tie.
 ghost use Rattle.std.specs.Prelude.{◌≡◌, IsTrue, ◌↔◌, ◌&&◌, ◌||◌, ◌==◌, nat_lt};
 ghost use Rattle.std.proofs.Common.{rules};
 
@@ -12,7 +12,7 @@ pub struct Item {
 }
 
 impl Item {
-    // One of 24 items, so that equal ones come often.
+    /// One of 24 items, so that equal ones come often.
     pub fn random(random: &mut Random) -> Item {
         Item {
             minute: u32::from(random.below(8)),
@@ -22,7 +22,8 @@ impl Item {
 }
 
 impl Precedence for Item {
-    ghost before = { λ x y. nat_lt x.minute y.minute || (x.minute == y.minute && nat_lt x.number y.number) };
+    ghost before = { λ x y.
+        nat_lt x.minute y.minute || (x.minute == y.minute && nat_lt x.number y.number) };
 
     ghost asymmetric = { Prim.search rules };
 
@@ -33,7 +34,7 @@ impl Precedence for Item {
     }
 }
 
-// Two items compare equal exactly where they are the same.
+/// Two items compare equal exactly where they are the same.
 pub fn equality_is_identity()
     ensures { (a b : Item) → IsTrue (⟦<Item as PartialEq>⟧.eq a b) ↔ (a ≡ b) }
 {}

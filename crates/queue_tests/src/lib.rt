@@ -1,6 +1,6 @@
+//! Tests of the queue on random calls, and a count of its comparisons.
 #![tactic(auto)]
 
-// Tests of the queue on random calls, and a count of its comparisons.
 #[cfg(test)]
 mod counted;
 #[cfg(test)]

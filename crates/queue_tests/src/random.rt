@@ -1,16 +1,16 @@
-// A seeded generator of numbers, the same on every run.
+//! A seeded generator of numbers, the same on every run.
 #[derive(Drop)]
 pub struct Random {
     state: u32,
 }
 
 impl Random {
-    // The generator of a seed.
+    /// The generator of a seed.
     pub fn new(seed: u32) -> Random {
         Random { state: seed }
     }
 
-    // A number below the bound, or 0.
+    /// A number below the bound, or 0.
     pub fn below(&mut self, bound: u16) -> u16 {
         self.state = self
             .state

@@ -1,3 +1,4 @@
+//! Random calls of the queue, beside a sorted list.
 use crate::counted::{Counted, Counter, Tally};
 use crate::item::Item;
 use crate::random::Random;

@@ -1,12 +1,12 @@
 -- Writing and reading undo each other.
-use Rattle.std.proofs.Common.{◌≡◌, ℕ, ◌+◌, ◌*◌, ◌/◌, ◌%◌, ◌<◌, true, ◌||◌, eqb, List, [], ◌∷◌, ◌++◌, map, length, get_or, replicate, sym, refl, ap, ◌∙◌, subst, ⊎_elim, arith}
+use Rattle.std.proofs.Common.{◌≡◌, ℕ, ◌+◌, ◌*◌, ◌/◌, ◌%◌, ◌<◌, true, eqb, List, [], ◌∷◌, ◌++◌, map, length, get_or, replicate, sym, refl, ap, ◌∙◌, subst, ⊎_elim, arith}
 use Rattle.std.proofs.lemmas.List.Folds.{list_all-append}
 use Rattle.std.proofs.lemmas.List.FromFn.{fill_by_all}
 use Rattle.std.proofs.lemmas.Bool.{and_parts, cases_Bool, eqb-true}
 use Rattle.std.specs.List.{range_with_len}
-use Rattle.faults.proofs.Rules.{kept_parts}
-use Rattle.faults.specs.Rules.{Kept}
-use Rattle.records.specs.Layout.{is_opening, is_ride, bytes4, bytes2, zeros, spare, layout, event_in, record_rules}
+use Rattle.faults.specs.Rules.{IsKept}
+use Rattle.records.proofs.Bounds.{record_bounds}
+use Rattle.records.specs.Layout.{is_opening_record, bytes4, bytes2, zeros, layout, event_in, record_rules}
 
 bytes4-word : (a b c d : ℕ) → a < 256 → b < 256 → c < 256 → d < 256 → bytes4 (a * 16777216 + b * 65536 + c * 256 + d) ≡ a ∷ b ∷ c ∷ d ∷ []
 bytes4-word a b c d ha hb hc hd =
@@ -47,22 +47,22 @@ module _ (p : ℕ) (bs : List ℕ) (small : (i : ℕ) → get_or bs i 0 < 256) w
   b i = get_or bs i 0
 
   -- a spelled-out record without fault is the one that writing its event gives
-  layout_first16 : Kept (record_rules p (first16 bs)) → layout (event_in (first16 bs)) ≡ first16 bs
+  layout_first16 : IsKept (record_rules p (first16 bs)) → layout (event_in (first16 bs)) ≡ first16 bs
   unfolding first16
   layout_first16 h =
       let w = bytes4-word (b 4) (b 5) (b 6) (b 7) (small 4) (small 5) (small 6) (small 7) in
       let v = bytes2-half (b 8) (b 9) (small 8) (small 9) in
-      let k = kept_parts (is_opening (first16 bs) || is_ride (first16 bs)) _ _ h in
-      let z : zeros (spare (first16 bs)) ≡ true = (kept_parts (zeros (spare (first16 bs))) _ _ k.1).0 in
+      let k = record_bounds p (first16 bs) h in
+      let z = k.spare_clear in
       ⊎_elim
       (λ e. let y = zeros_parts (b 2 ∷ b 3 ∷ []) (b 8 ∷ b 9 ∷ b 10 ∷ b 11 ∷ b 12 ∷ b 13 ∷ b 14 ∷ b 15 ∷ []) (rw e at z) in
       rw e (same_parts 1 (b 0) (b 1) (0 ∷ 0 ∷ []) (b 2 ∷ b 3 ∷ []) _ _ _ _ (sym (eqb-true (b 0) 1 e)) (sym y.0) w (sym y.1)))
       (λ e. let y = zeros_parts (b 3 ∷ []) (b 10 ∷ b 11 ∷ b 12 ∷ b 13 ∷ b 14 ∷ b 15 ∷ []) (rw e at z) in
-      rw e (same_parts 2 (b 0) (b 1) (b 2 ∷ 0 ∷ []) (b 2 ∷ b 3 ∷ []) _ _ _ _ (sym (eqb-true (b 0) 2 (rw e at k.0))) (ap (λ l. b 2 ∷ l) (sym y.0)) w (cc (v, y.1))))
-      (cases_Bool (is_opening (first16 bs)))
+      rw e (same_parts 2 (b 0) (b 1) (b 2 ∷ 0 ∷ []) (b 2 ∷ b 3 ∷ []) _ _ _ _ (sym (eqb-true (b 0) 2 (rw e at k.kind))) (ap (λ l. b 2 ∷ l) (sym y.0)) w (cc (v, y.1))))
+      (cases_Bool (is_opening_record (first16 bs)))
 
-  pub layout-event_in : length bs ≡ 16 → Kept (record_rules p bs) → layout (event_in bs) ≡ bs
+  pub layout-event_in : length bs ≡ 16 → IsKept (record_rules p bs) → layout (event_in bs) ≡ bs
   unfolding first16
   layout-event_in sixteen h =
       let e = fill_by_all (λ i. get_or bs i 0) bs 16 0 sixteen (λ k _. refl) in
-      subst (λ l. layout (event_in l) ≡ l) (sym e) (layout_first16 (subst (λ l. Kept (record_rules p l)) e h))
+      subst (λ l. layout (event_in l) ≡ l) (sym e) (layout_first16 (subst (λ l. IsKept (record_rules p l)) e h))

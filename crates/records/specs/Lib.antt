@@ -1,3 +1,4 @@
+pub mod Limits
 pub mod Events
 pub mod Kinds
 pub mod Layout

@@ -1,118 +1,163 @@
-// An event and its limits.
-ghost use Rattle.std.specs.Prelude.{◌≡◌, Some};
-ghost use Rattle.faults.specs.Rules.{judged};
-ghost use Rattle.records.specs.declared.event.Event.TheVariants.{Ride};
-ghost use Rattle.records.specs.Events.{limits, time_of, in_order};
-ghost use Rattle.records.specs.Shown.{shown};
+//! An event and its limits.
+ghost use Rattle.std.specs.Prelude.{◌≡◌, [], ◌∷◌, Some};
+ghost use Rattle.faults.specs.Rules.{ruling};
+ghost use Rattle.records.specs.Events.{arrival_of, may_precede, is_opening, limits, opening_event, ride_event, ride_rules, time_of, time_rule};
+ghost use Rattle.records.specs.Shown.{event_text};
 
+use crate::limits::{LAST_MINUTE, LONGEST_RIDE, Stop};
 use faults::Fault;
 use std::fmt;
 
-// A stop's number.
-pub type Stop = u8;
+/// A minute in which a place at a stop can be used.
+#[derive(Clone, Copy, PartialEq, Eq, Debug)]
+pub struct Opening {
+    pub minute: u32,
+    pub stop: Stop,
+}
 
-// Minutes from the timetable's first minute; the last one that a timetable has.
-pub const LAST_MINUTE: u32 = 999_999;
+/// A ride from stop to stop: the minute in which it departs, and how many minutes it takes. The fields stand in the order in
+/// which they take 8 bytes.
+#[derive(Clone, Copy, PartialEq, Eq, Debug)]
+pub struct Ride {
+    pub departure: u32,
+    pub duration: u16,
+    pub from: Stop,
+    pub to: Stop,
+}
 
-// The longest ride, in minutes.
-pub const LONGEST_RIDE: u16 = 1_440;
-
-// The most events that a timetable has.
-pub const MOST_EVENTS: usize = 1_024;
-
-// What a timetable holds: a minute in which a place at a stop can be used, or a ride from stop to stop.
+/// What a timetable holds.
 #[derive(Clone, Copy, PartialEq, Eq, Debug)]
 pub enum Event {
-    Opening {
-        stop: Stop,
-        minute: u32,
-    },
-    Ride {
-        from: Stop,
-        to: Stop,
-        departure: u32,
-        duration: u16,
-    },
+    /// A place at a stop can be used.
+    Opening(Opening),
+    /// A vehicle goes from one stop to another.
+    Ride(Ride),
 }
 
 // In words.
 impl fmt::Display for Event {
-    ghost output = { λ event. Some (shown event) };
+    ghost output = { λ event. Some (event_text event) };
 
     fn fmt<W: fmt::Write>(&self, f: &mut fmt::Formatter<W>) -> fmt::Result {
         match *self {
-            Event::Opening { stop, minute } => write!(f, "opening at {stop}, minute {minute}"),
-            Event::Ride {
-                from,
-                to,
-                departure,
-                duration,
-            } => write!(f, "{from}-{to} {departure}+{duration}"),
+            Event::Opening(Opening { stop, minute }) => {
+                write!(f, "opening at {stop}, minute {minute}")
+            }
+            Event::Ride(
+                Ride {
+                    from,
+                    to,
+                    departure,
+                    duration,
+                },
+            ) => write!(f, "{from}-{to} {departure}+{duration}"),
         }
     }
 }
 
-impl Event {
-    // A ride that lasts so many minutes, within the limits or not.
-    pub fn ride(from: Stop, to: Stop, departure: u32, minutes: u16) -> Event
-        ensures { result ≡ Ride from to departure minutes }
+/// Refuses a minute that no timetable has.
+///
+/// # Errors
+///
+/// Fault 8, with the place given, where the minute is after the last one.
+pub fn check_minute(minute: u64, place: usize) -> Result<(), Fault>
+    ensures { result ≡ ruling (time_rule place minute ∷ []) tt }
+{
+    if minute > u64::from(LAST_MINUTE) {
+        return Err(Fault::TimeOutOfRange { place });
+    }
+    Ok(())
+}
+
+impl Ride {
+    /// The minute in which the ride arrives.
+    pub fn arrival(self) -> u64
+        ensures { result ≡ arrival_of self }
     {
-        Event::Ride {
+        u64::from(self.departure) + u64::from(self.duration)
+    }
+
+    /// Refuses a ride by its stops and its duration, which a ride of a line has to obey too.
+    ///
+    /// # Errors
+    ///
+    /// With the place given: fault 5 where its stops are equal, 6 where it lasts no minute or more than the longest ride.
+    pub fn check(self, place: usize) -> Result<(), Fault>
+        ensures { result ≡ ruling (ride_rules place self) tt }
+    {
+        if self.from == self.to {
+            return Err(Fault::EqualStops { place });
+        }
+        if self.duration == 0 || self.duration > LONGEST_RIDE {
+            return Err(Fault::DurationOutOfRange { place });
+        }
+        Ok(())
+    }
+}
+
+impl Event {
+    /// A ride that lasts so many minutes, within the limits or not.
+    pub fn ride(from: Stop, to: Stop, departure: u32, minutes: u16) -> Event
+        ensures { result ≡ ride_event from to departure minutes }
+    {
+        Event::Ride(Ride {
             from,
             to,
             departure,
             duration: minutes,
-        }
+        })
     }
 
-    // Refuses an event outside the limits, with the first broken one, at the place given.
+    /// An opening at a stop in a minute, within the limits or not.
+    pub fn opening(stop: Stop, minute: u32) -> Event
+        ensures { result ≡ opening_event stop minute }
+    {
+        Event::Opening(Opening { minute, stop })
+    }
+
+    /// Refuses an event outside the limits.
+    ///
+    /// # Errors
+    ///
+    /// With the place given, for a ride: fault 5 where its stops are equal, 6 where its duration is out of range, 8 where it
+    /// arrives after the last minute. For an opening: 8 where its minute is after the last one.
     pub fn check(self, place: usize) -> Result<(), Fault>
-        ensures { result ≡ judged (limits place self) tt }
+        ensures { result ≡ ruling (limits place self) tt }
     {
         match self {
-            Event::Opening { minute, .. } => {
-                if minute > LAST_MINUTE {
-                    return Err(Fault::TimeOutOfRange { place });
-                }
-            }
-            Event::Ride {
-                from,
-                to,
-                departure,
-                duration,
-            } => {
-                if from == to {
-                    return Err(Fault::EqualStops { place });
-                }
-                if duration == 0 || duration > LONGEST_RIDE {
-                    return Err(Fault::DurationOutOfRange { place });
-                }
-                if u64::from(departure) + u64::from(duration) > u64::from(LAST_MINUTE) {
-                    return Err(Fault::TimeOutOfRange { place });
-                }
+            Event::Opening(opening) => check_minute(u64::from(opening.minute), place),
+            Event::Ride(ride) => {
+                ride.check(place)?;
+                check_minute(ride.arrival(), place)
             }
         }
-        Ok(())
     }
 
-    // The minute of an opening, or the departure of a ride.
+    /// The minute of an opening, or the departure of a ride.
     pub fn time(self) -> u32
         ensures { result ≡ time_of self }
     {
         match self {
-            Event::Opening { minute, .. } => minute,
-            Event::Ride { departure, .. } => departure,
+            Event::Opening(opening) => opening.minute,
+            Event::Ride(ride) => ride.departure,
         }
     }
 
-    // Whether `next` may come right after this event: its time is not earlier, and within a minute
-    // no opening follows a ride.
+    /// Whether it is an opening.
+    pub fn is_opening(self) -> bool
+        ensures { result ≡ is_opening self }
+    {
+        matches!(self, Event::Opening(_))
+    }
+
+    /// Whether `next` may come right after this event: its time is not earlier, and within a minute
+    /// no opening follows a ride.
     pub fn may_precede(self, next: Event) -> bool
-        ensures { result ≡ in_order self next }
+        ensures { result ≡ may_precede self next }
     {
         let (time, next_time) = (self.time(), next.time());
         match (self, next) {
-            (Event::Ride { .. }, Event::Opening { .. }) => time < next_time,
+            (Event::Ride(_), Event::Opening(_)) => time < next_time,
             _ => time <= next_time,
         }
     }

@@ -1,4 +1,4 @@
-// The kinds of records, each with the byte that tells it.
+//! The kinds of records, each with the byte that tells it.
 ghost use Rattle.records.specs.Kinds.{Decodes};
 
 // What a record holds.

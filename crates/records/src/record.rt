@@ -1,30 +1,40 @@
-// Sixteen bytes to an event and back. Records of lines are read by a text of their own: the two differ field by field and limit
-// by limit, not in a size or a type, and a trait of rows would hold both texts and a law more.
+//! Sixteen bytes to an event and back. What a line has beside its first ride is read where lines are.
 ghost use Rattle.std.specs.Prelude.{◌≡◌, ℕ, IfOk, Ok};
-ghost use Rattle.records.specs.Kinds.{spare_of};
-ghost use Rattle.records.specs.Layout.{event_in, layout, reading, writing, zeros};
+ghost use Rattle.records.specs.Kinds.{spare_bytes_of};
+ghost use Rattle.records.specs.Layout.{event_in, layout, reading, ride_in, word, writing, zeros};
 
-use crate::event::Event;
+use crate::event::{Event, Opening, Ride};
 use crate::kind::Kind;
 use faults::Fault;
 
-// The event that the fields of a record give, whatever its spare bytes; a kind that is not an opening's
-// is taken for a ride's.
+// The minute that the fields of a record give.
+fn minute_in(bytes: &[u8; 16]) -> u32
+    ensures { result ≡ word bytes.now 4 }
+{
+    u32::from_be_bytes([bytes[4], bytes[5], bytes[6], bytes[7]])
+}
+
+/// The ride that the fields of a record give, whatever its kind and the bytes that a ride does not use: also the first
+/// ride of a line.
+pub fn ride_fields(bytes: &[u8; 16]) -> Ride
+    ensures { result ≡ ride_in bytes.now }
+{
+    Ride {
+        from: bytes[1],
+        to: bytes[2],
+        departure: minute_in(bytes),
+        duration: u16::from_be_bytes([bytes[8], bytes[9]]),
+    }
+}
+
+/// The event that the fields of a record give, whatever its spare bytes; a kind that is not an opening's
+/// is taken for a ride's.
 pub fn fields(bytes: &[u8; 16]) -> Event
     ensures { result ≡ event_in bytes.now }
 {
-    let time = u32::from_be_bytes([bytes[4], bytes[5], bytes[6], bytes[7]]);
     match Kind::try_from(bytes[0]) {
-        Ok(Kind::Opening) => Event::Opening {
-            stop: bytes[1],
-            minute: time,
-        },
-        _ => Event::Ride {
-            from: bytes[1],
-            to: bytes[2],
-            departure: time,
-            duration: u16::from_be_bytes([bytes[8], bytes[9]]),
-        },
+        Ok(Kind::Opening) => Event::opening(bytes[1], minute_in(bytes)),
+        _ => Event::Ride(ride_fields(bytes)),
     }
 }
 
@@ -37,7 +47,7 @@ fn all_zero(bytes: &[u8]) -> bool
 
 // Whether the bytes that a record of the kind does not use are all 0.
 fn spare_bytes_clear(kind: Kind, bytes: &[u8; 16]) -> bool
-    ensures { result ≡ zeros (spare_of kind bytes.now) }
+    ensures { result ≡ zeros (spare_bytes_of kind bytes.now) }
 {
     match kind {
         Kind::Opening => all_zero(&bytes[2..4]) && all_zero(&bytes[8..16]),
@@ -45,7 +55,11 @@ fn spare_bytes_clear(kind: Kind, bytes: &[u8; 16]) -> bool
     }
 }
 
-// Reads a record: its event, or the first rule that it breaks, at the place given.
+/// Reads a record: its event, or the first rule that it breaks, at the place given.
+///
+/// # Errors
+///
+/// Fault 3 where the kind is none of an event, 4 where a spare byte is not 0, then as `Event::check`.
 pub fn read(bytes: &[u8; 16], place: usize) -> Result<Event, Fault>
     ensures value { result ≡ reading place bytes.now }
     ensures only_record { IfOk result (λ e. layout e ≡ bytes.now) }
@@ -65,19 +79,21 @@ impl From<Event> for [u8; 16] {
 
     fn from(event: Event) -> [u8; 16] {
         match event {
-            Event::Opening { stop, minute } => {
+            Event::Opening(Opening { stop, minute }) => {
                 let kind = Kind::Opening as u8;
                 let m = minute.to_be_bytes();
                 [
                     kind, stop, 0, 0, m[0], m[1], m[2], m[3], 0, 0, 0, 0, 0, 0, 0, 0,
                 ]
             }
-            Event::Ride {
-                from,
-                to,
-                departure,
-                duration,
-            } => {
+            Event::Ride(
+                Ride {
+                    from,
+                    to,
+                    departure,
+                    duration,
+                },
+            ) => {
                 let kind = Kind::Ride as u8;
                 let t = departure.to_be_bytes();
                 let d = duration.to_be_bytes();
@@ -89,7 +105,11 @@ impl From<Event> for [u8; 16] {
     }
 }
 
-// Writes an event: the one record that reads as it, or the first limit that it breaks, at place 0.
+/// Writes an event: the one record that reads as it.
+///
+/// # Errors
+///
+/// The first limit that it breaks, as `Event::check` at place 0.
 pub fn write(event: Event) -> Result<[u8; 16], Fault>
     ensures value { result ≡ writing event }
     ensures reads_back { IfOk result (λ bs. (p : ℕ) → reading p bs ≡ Ok event) }

@@ -27,7 +27,7 @@ use Rattle.std.specs.Str.Iter.{split_steps}
 use Rattle.std.specs.Str.Parse.{digits_value, without_leading_plus}
 use Rattle.std.specs.Str.Pattern.{FindsChar}
 use Rattle.records.specs.declared.event.Event.{Event}
-use Rattle.records.specs.declared.event.Event.TheVariants.{Opening, Ride}
+use Rattle.records.specs.Events.{opening_event, ride_event}
 use Rattle.journeys.specs.declared.query.Query.{Query}
 use Rattle.scripts.specs.declared.line.DayLine.{DayLine}
 use Rattle.scripts.specs.declared.line.DayLine.TheVariants.{New, Add, Withdraw, Ask}
@@ -56,12 +56,12 @@ number_before k f [] = Err MissingNumber
 number_before k f (w ∷ ws) = number_or_error (number_in k w) (λ n. f n ws)
 
 abbrev pub opening_in : List (List ℕ) → Result Event LineError
-opening_in = number_before 8 (λ stop. number_before 32 (λ minute _. Ok (Opening stop minute)))
+opening_in = number_before 8 (λ stop. number_before 32 (λ minute _. Ok (opening_event stop minute)))
 
 abbrev pub ride_in : List (List ℕ) → Result Event LineError
 ride_in =
     number_before 8 (λ from. number_before 8 (λ to. number_before 32 (λ departure.
-    number_before 16 (λ duration _. Ok (Ride from to departure duration)))))
+    number_before 16 (λ duration _. Ok (ride_event from to departure duration)))))
 
 abbrev pub question_in : List (List ℕ) → Result Query LineError
 question_in =

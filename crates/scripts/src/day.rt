@@ -1,6 +1,6 @@
-// A day of a script.
+//! A day of a script.
 ghost use Rattle.std.specs.Prelude.{◌≡◌, [], OnOk, OnErr};
-ghost use Rattle.scripts.specs.Taking.{Taken, Withdrawn};
+ghost use Rattle.scripts.specs.Taking.{TakesLine, Withdraws};
 
 use crate::line::DayLine;
 use journeys::Query;
@@ -8,7 +8,7 @@ use records::Event;
 use std::alloc::{AllocError, Global};
 use std::default::MadeWith;
 
-// The events of a day, and a mark for each that is out of force: marks of any length beside the events, as a search takes them.
+/// The events of a day, and a mark for each that is out of force: marks of any length beside the events, as a search takes them.
 #[derive(Drop)]
 pub struct Day {
     pub events: Vec<Event>,
@@ -29,7 +29,7 @@ impl MadeWith<Global> for Day {
 
 // Sets the mark of an event, with all marks before it.
 fn mark(marks: &mut Vec<bool>, number: u32) -> Result<(), AllocError>
-    ensures ok { OnOk result (Withdrawn number marks.old.items marks.new.items) }
+    ensures ok { OnOk result (Withdraws number marks.old.items marks.new.items) }
     ensures err { OnErr result (marks.new.items ≡ marks.old.items) }
 {
     let number = number as usize;
@@ -41,9 +41,10 @@ fn mark(marks: &mut Vec<bool>, number: u32) -> Result<(), AllocError>
 }
 
 impl Day {
-    // Does what a line tells, and hands back what it asks.
+    /// Does what a line tells, and hands back what it asks.
     pub fn take(&mut self, line: DayLine) -> Result<Option<Query>, AllocError>
-        ensures { Taken line self.old.events.items self.old.marks.items result self.new.events.items self.new.marks.items }
+        ensures { let es = self.old.events.items in let ms = self.old.marks.items in
+            TakesLine line es ms result self.new.events.items self.new.marks.items }
     {
         match line {
             DayLine::New => {
@@ -73,20 +74,12 @@ mod tests {
             close: 200,
             call: true,
         };
-        let opening = Event::Opening {
-            stop: 2,
-            minute: 125,
-        };
+        let opening = Event::opening(2, 125);
         assert_eq!(rt; day.take(DayLine::Add(opening))?, None);
         assert_eq!(rt; day.take(DayLine::Withdraw(2))?, None);
         assert_eq!(rt; day.take("r 2 3 125 30".parse()?)?, None);
         assert_eq!(rt; day.take("j 1 3 100 200 1 4 5".parse()?)?, Some(asked));
-        let ride = Event::Ride {
-            from: 2,
-            to: 3,
-            departure: 125,
-            duration: 30,
-        };
+        let ride = Event::ride(2, 3, 125, 30);
         assert_eq!(rt; day.events.as_slice(), [opening, ride].as_slice());
         assert_eq!(rt; day.marks.as_slice(), [false, false, true].as_slice());
         assert_eq!(rt; day.take(DayLine::New)?, None);

@@ -1,9 +1,9 @@
-// What the library's traits mean at a day, a line and an error.
+//! What the library's traits mean at a day, a line and an error.
 ghost use Rattle.std.specs.Prelude.{◌≡◌, ℕ, List, [], Some, Result, IsTrue, ◌↔◌};
 ghost use Rattle.scripts.specs.declared.day.Day.{Day};
 ghost use Rattle.scripts.specs.declared.line.DayLine.{DayLine};
 ghost use Rattle.scripts.specs.declared.line.LineError.{LineError};
-ghost use Rattle.scripts.specs.Errors.{told};
+ghost use Rattle.scripts.specs.Errors.{error_text};
 ghost use Rattle.scripts.specs.Lines.{line_in};
 
 use crate::day::Day;
@@ -27,7 +27,7 @@ pub fn days_begin_empty()
 
 /// An error prints as its words.
 pub fn displays_are_words()
-    ensures { (e : LineError) → ⟦<LineError as fmt::Display>⟧.output e ≡ Some (told e) }
+    ensures { (e : LineError) → ⟦<LineError as fmt::Display>⟧.output e ≡ Some (error_text e) }
 {}
 
 /// Two lines, and two errors, compare equal exactly where they are the same.

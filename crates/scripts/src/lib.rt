@@ -1,4 +1,4 @@
-// Days that are told in lines of text, for programs that are held against another side.
+//! Days that are told in lines of text, for programs that are held against another side.
 #![tactic(auto)]
 
 mod day;

@@ -1,20 +1,20 @@
-// A line of a script:
-//     d                                a new day
-//     o STOP MINUTE                    its next event, an opening
-//     r FROM TO DEPARTURE DURATION     its next event, a ride
-//     x NUMBER                         the event with this number is out of force
-//     j or q, FROM TO OPEN CLOSE CALL  a question about the day; what stands behind it is the program's to read
+//! A line of a script:
+//!     d                                a new day
+//!     o STOP MINUTE                    its next event, an opening
+//!     r FROM TO DEPARTURE DURATION     its next event, a ride
+//!     x NUMBER                         the event with this number is out of force
+//!     j or q, FROM TO OPEN CLOSE CALL  a question about the day; what stands behind it is the program's to read
 ghost use Rattle.std.specs.Prelude.{◌≡◌, ℕ, List, drop, Some};
-ghost use Rattle.scripts.specs.Errors.{told};
+ghost use Rattle.scripts.specs.Errors.{error_text};
 ghost use Rattle.scripts.specs.Lines.{NumberTaken, WordsLeft, line_in, opening_in, question_in, ride_in};
 
 use journeys::Query;
-use records::Event;
+use records::{Event, Opening, Ride};
 use std::error::Error;
 use std::fmt;
 use std::str::{FromStr, Split};
 
-// What a line tells.
+/// What a line tells.
 #[derive(Clone, Copy, PartialEq, Eq, Debug)]
 pub enum DayLine {
     New,
@@ -23,7 +23,7 @@ pub enum DayLine {
     Ask(Query),
 }
 
-// Why a line tells nothing.
+/// Why a line tells nothing.
 #[derive(Clone, Copy, PartialEq, Eq, Debug)]
 pub enum LineError {
     UnknownLetter,
@@ -32,7 +32,7 @@ pub enum LineError {
 }
 
 impl fmt::Display for LineError {
-    ghost output = { λ error. Some (told error) };
+    ghost output = { λ error. Some (error_text error) };
 
     fn fmt<W: fmt::Write>(&self, f: &mut fmt::Formatter<W>) -> fmt::Result {
         f.write_str(match self {
@@ -59,21 +59,21 @@ where
 fn opening(words: &mut Split<char>) -> Result<Event, LineError>
     ensures { (ws : List (List ℕ)) → WordsLeft words.old ws → result ≡ opening_in ws }
 {
-    Ok(Event::Opening {
+    Ok(Event::Opening(Opening {
         stop: next(words)?,
         minute: next(words)?,
-    })
+    }))
 }
 
 fn ride(words: &mut Split<char>) -> Result<Event, LineError>
     ensures { (ws : List (List ℕ)) → WordsLeft words.old ws → result ≡ ride_in ws }
 {
-    Ok(Event::Ride {
+    Ok(Event::Ride(Ride {
         from: next(words)?,
         to: next(words)?,
         departure: next(words)?,
         duration: next(words)?,
-    })
+    }))
 }
 
 fn query(words: &mut Split<char>) -> Result<Query, LineError>

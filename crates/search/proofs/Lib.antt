@@ -1,3 +1,4 @@
+pub mod Carryings
 pub mod Leading
 pub mod Readings
 pub mod Searching

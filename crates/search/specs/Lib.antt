@@ -1,5 +1,5 @@
 pub mod Carrying
-pub mod Queries
+pub mod Lengths
 pub mod Readings
 pub mod Searches
 pub mod Tables

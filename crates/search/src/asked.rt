@@ -1,25 +1,43 @@
-// A query that has passed its checks.
-ghost use Rattle.std.specs.Prelude.{◌≡◌, ◌≤◌, false, ◌==◌};
-ghost use Rattle.std.specs.Result.{result_map_both};
-ghost use Rattle.journeys.specs.Queries.{checked};
+//! A query that has passed its checks.
+ghost use Rattle.std.specs.Prelude.{◌≡◌};
+ghost use Rattle.faults.specs.Rules.{IsKept};
+ghost use Rattle.journeys.specs.Queries.{checked_query, query_rules};
 
 use faults::Fault;
 use journeys::Query;
 use records::LAST_MINUTE;
+use std::marker::Model;
 
-// A query whose stops differ, and whose window does not close before it opens, nor after the last minute.
+/// A query whose stops differ, and whose window does not close before it opens, nor after the last
+/// minute.
 #[derive(Clone, Copy)]
 pub struct CheckedQuery {
     query: Query,
-    ghost apart: { (query.from == query.to) ≡ false },
-    ghost opens: { query.open ≤ query.close },
-    ghost closes: { query.close ≤ 999999 },
+}
+
+// It is the query, of which it is known that it obeys the rules.
+impl Model for CheckedQuery {
+    ghost use Rattle.faults.specs.Rules.{IsKept};
+    ghost use Rattle.journeys.specs.declared.query.Query.{Query};
+    ghost use Rattle.journeys.specs.Queries.{query_rules};
+
+    ghost Value = { Query };
+
+    ghost view = { λ c. c.query };
+
+    ghost invariant = { λ c. IsKept (query_rules c.query) };
+
+    ghost inverse = { λ q. record { query = q } };
 }
 
 impl CheckedQuery {
-    // The query, if it passes: 14 where its stops are equal, 15 where its window is none.
+    /// The query, if it passes.
+    ///
+    /// # Errors
+    ///
+    /// Fault 14 where its stops are equal, and 15 where its window is none.
     pub fn new(query: Query) -> Result<CheckedQuery, Fault>
-        ensures { result_map_both (λ c. c.query) (λ f. f) result ≡ checked query }
+        ensures { result ≡ checked_query query }
     {
         if query.from == query.to {
             return Err(Fault::EqualQueryStops);
@@ -30,9 +48,10 @@ impl CheckedQuery {
         Ok(CheckedQuery { query })
     }
 
-    // The query that was checked.
+    /// The query that was checked.
     pub fn query(self) -> Query
-        ensures { result ≡ self.query }
+        ensures query { result ≡ self }
+        ensures rules { IsKept (query_rules result) }
     {
         self.query
     }

@@ -1,10 +1,10 @@
-// Labels that carry along what an answer tells of a journey.
+//! Labels that carry along what an answer tells of a journey.
 ghost use Rattle.search.specs.Carrying.{carrying};
 ghost use Rattle.search.specs.Carryings.{carrying_laws};
 
 use measures::Measure;
 
-// A measure's label, and when the journey began, the minutes ridden and the rides so far.
+/// A measure's label, and when the journey began, the minutes ridden and the rides so far.
 #[derive(Clone, Copy, PartialEq, Eq, Debug)]
 pub struct Carried<L> {
     pub label: L,
@@ -13,7 +13,7 @@ pub struct Carried<L> {
     pub rides: u32,
 }
 
-// The measure M over labels that carry these along; they are compared and settled by M alone.
+/// The measure M over labels that carry these along; they are compared and settled by M alone.
 pub struct Carrying<M>(M);
 
 impl<M: Measure> Measure for Carrying<M> {

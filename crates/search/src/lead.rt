@@ -1,13 +1,12 @@
-// The entry with the lowest score among those that end as a query asks.
-ghost use Rattle.std.specs.Prelude.{◌≡◌, ◌≤◌, Decides};
-ghost use Rattle.measures.specs.Measures.{◌≼◌};
-ghost use Rattle.search.specs.Readings.{Contends, Leads, LeadsOn, scored};
+//! The entry with the lowest score among those that end as a query asks.
+ghost use Rattle.std.specs.Prelude.{◌≡◌, ◌≤◌, ◌↔◌, IsTrue};
+ghost use Rattle.walks.specs.Logs.{IsAhead};
+ghost use Rattle.search.specs.Readings.{Contends, Leads, LeadsOn, entry_outcome};
 
-use crate::tables::Tables;
 use journeys::Query;
 use measures::Measure;
 use records::Stop;
-use steps::{Entry, Stage, entry_for};
+use scans::{Entry, Stage, entry_for};
 
 // An entry and the event that it is for.
 #[derive(Clone, Copy)]
@@ -18,7 +17,7 @@ pub(crate) struct Leader<L> {
 
 // Whether a journey that is at a stop in a minute ends as the query asks.
 fn ends_rightly(query: Query, stop: Stop, end: u32) -> bool
-    ensures { Decides result ((stop ≡ query.to) × (end ≤ query.close)) }
+    ensures { IsTrue result ↔ ((stop ≡ query.to) × (end ≤ query.close)) }
 {
     stop == query.to && end <= query.close
 }
@@ -28,22 +27,28 @@ fn contender<L: Copy>(query: Query, event: u16, entry: Option<Entry<L>>) -> Opti
     ensures { Contends query event entry result }
 {
     entry
-        .filter(|noted| ends_rightly(query, noted.stop, noted.end))
+        .filter(|entry| ends_rightly(query, entry.stop, entry.end))
         .map(|entry| Leader { event, entry })
 }
 
-// Whether a score is not higher than another: the comparison of tuples, under the word that contracts use.
-fn not_higher(first: (i64, i64), second: (i64, i64)) -> bool
-    ensures { Decides result (first ≼ second) }
+// A score, and the number of the last event of the journeys that have it.
+type Outcome = ((i64, i64), u16);
+
+// Whether an outcome leads over another. By this the leader is chosen; of two scores that are equal, the first leads, as it is
+// asked for.
+fn is_ahead(first: Outcome, second: Outcome) -> bool
+    ensures { IsTrue result ↔ IsAhead first second }
 {
+    let ((first, _), (second, _)) = (first, second);
     first <= second
 }
 
-// The score of an entry, settled at its end.
-fn score<M: Measure>(entry: &Entry<M::Label>) -> (i64, i64)
-    ensures { result ≡ scored M.ops entry.now }
+// The outcome of an entry, settled at its end.
+fn outcome<M: Measure>(leader: &Leader<M::Label>) -> Outcome
+    ensures { result ≡ entry_outcome M.ops leader.now.event leader.now.entry }
 {
-    M::settle(entry.label, entry.end)
+    let entry = &leader.entry;
+    (M::settle(entry.label, entry.end), leader.event)
 }
 
 // Who leads once the entry for an event, if there is one, is seen too.
@@ -61,7 +66,7 @@ fn lead<M: Measure>(
     let Some(first) = leader else {
         return Some(comes);
     };
-    if not_higher(score::<M>(&first.entry), score::<M>(&comes.entry)) {
+    if is_ahead(outcome::<M>(&first), outcome::<M>(&comes)) {
         Some(first)
     } else {
         Some(comes)
@@ -70,11 +75,11 @@ fn lead<M: Measure>(
 
 // Of the entries for the events before `done` that end as the query asks, one with the lowest score.
 pub(crate) fn lowest<M: Measure>(
-    tables: &Tables<'_, M::Label>,
+    log: &[Option<Entry<M::Label>>],
     query: Query,
     done: u16,
 ) -> Option<Leader<M::Label>>
-    ensures { Leads M.ops query tables.now.log.now done result }
+    ensures { Leads M.ops query log.now done result }
 {
     // A fold was tried: what its closure promises would be the induction over again.
     let mut leader = None;
@@ -83,7 +88,7 @@ pub(crate) fn lowest<M: Measure>(
             event,
             called: query.call,
         };
-        leader = lead::<M>(leader, query, event, entry_for(tables.log, stage));
+        leader = lead::<M>(leader, query, event, entry_for(log, stage));
     }
     leader
 }

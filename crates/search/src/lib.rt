@@ -1,8 +1,7 @@
-// The search for a best journey, in tables that the caller lends: a log of entries, a board of who is ready at a stop, and a
-// queue of awaited arrivals.
+//! The search for a best journey, in tables that the caller lends: a log of entries, a board of who is ready at a stop, and a
+//! queue of awaited arrivals.
 #![tactic(auto)]
 
-mod answer;
 mod asked;
 mod carried;
 mod facts;
@@ -12,9 +11,10 @@ mod read;
 mod tables;
 mod trace;
 
-pub use answer::Answer;
 pub use asked::CheckedQuery;
 pub use carried::{Carried, Carrying};
-pub use facts::{carryings_are_defined, clone_is_identity, equality_is_identity};
+pub use facts::{
+    carryings_are_defined, clone_is_identity, equality_is_identity, limits_are_defined,
+};
 pub use finder::search;
 pub use tables::{BOARD_SLOTS, Tables};

@@ -1,65 +1,73 @@
-// Following the origins of entries back from a journey's last event.
+//! Following the predecessors of entries back from a journey's last event.
 ghost use Rattle.std.specs.Prelude.{◌≡◌, ℕ, ◌+◌, ◌<◌, ◌≤◌, List, ◌++◌, length, drop};
-ghost use Rattle.walks.specs.Logs.{Traced};
-ghost use Rattle.steps.specs.Views.{view};
-ghost use Rattle.search.specs.Tables.{SameTables};
-ghost use Rattle.search.specs.Tracing.{Backward, stage_before};
+ghost use Rattle.records.specs.Limits.{most_events};
+ghost use Rattle.walks.specs.Logs.{TracesBack};
+ghost use Rattle.scans.specs.Views.{view};
+ghost use Rattle.search.specs.Tracing.{IsBackward, stage_before};
 
-use crate::tables::Tables;
-use steps::{Stage, entry_for};
+use scans::{Entry, Stage, entry_for};
 
 // The stage before this one on its journey; none where the journey begins with it.
-fn stage_before<L: Copy>(tables: &Tables<'_, L>, stage: Stage) -> Option<Stage>
-    ensures { result ≡ stage_before tables.now.log.now stage }
+fn stage_before<L: Copy>(log: &[Option<Entry<L>>], stage: Stage) -> Option<Stage>
+    ensures { result ≡ stage_before log.now stage }
 {
-    entry_for(tables.log, stage)?.origin
+    entry_for(log, stage)?.predecessor
 }
 
 // How many steps the journey has that tracing back from a stage spells.
-fn count_steps<L: Copy>(tables: &Tables<'_, L>, last: Stage) -> usize
-    requires backward { Backward tables.now.log.now }
-    requires numbered { last.event < 1024 }
-    ensures count { (js : List ℕ) → Traced (view tables.now.log.now) last.event last.called js → result ≡ length js }
+fn count_steps<L: Copy>(log: &[Option<Entry<L>>], last: Stage) -> usize
+    requires backward { IsBackward log.now }
+    requires numbered { last.event < most_events }
+    ensures count { (js : List ℕ)
+        → TracesBack (view log.now) last.event last.called js
+        → result ≡ length js }
     ensures few { result ≤ last.event + 1 }
 {
     // It ends where the journey begins, and not at a count; an iterator of stages would be proved to end by the same numbers.
     let mut count = 1;
     let mut stage = last;
-    while let Some(before) = stage_before(tables, stage) {
+    while let Some(before) = stage_before(log, stage) {
         count += 1;
         stage = before;
     }
     count
 }
 
-// Writes the journey that tracing back from a stage spells, of so many steps, into the front of the step table.
-fn write_steps<L: Copy>(tables: &mut Tables<'_, L>, last: Stage, count: usize)
-    requires traced { (js : List ℕ) × Traced (view tables.old.log.now) last.event last.called js × (count ≡ length js) }
-    requires room { count ≤ length tables.old.steps.now }
-    ensures written { (js : List ℕ) → Traced (view tables.old.log.now) last.event last.called js → tables.new.steps.now ≡ js ++ drop (length js) tables.old.steps.now }
-    ensures same { SameTables tables.old tables.new }
+// Writes the journey that tracing back from a stage spells into slots of which there are as many as it has steps.
+fn write_steps<L: Copy>(log: &[Option<Entry<L>>], steps: &mut [usize], last: Stage)
+    requires { (js : List ℕ)
+        × TracesBack (view log.now) last.event last.called js
+        × (length steps.old ≡ length js) }
+    ensures { TracesBack (view log.now) last.event last.called steps.new }
 {
     // From the end to the front, since the journey is found from its last event.
-    let mut place = count;
+    let mut place = steps.len();
     let mut next = Some(last);
     while let Some(stage) = next {
         place -= 1;
-        tables.steps[place] = usize::from(stage.event);
-        next = stage_before(tables, stage);
+        steps[place] = usize::from(stage.event);
+        next = stage_before(log, stage);
     }
 }
 
-// Writes the journey that tracing back from a stage spells into the front of the step table, and tells its number of steps.
-pub(crate) fn trace_back<L: Copy>(tables: &mut Tables<'_, L>, last: Stage) -> usize
-    requires backward { Backward tables.old.log.now }
-    requires traced { (js : List ℕ) × Traced (view tables.old.log.now) last.event last.called js }
-    requires numbered { last.event < 1024 }
-    requires room { last.event < length tables.old.steps.now }
-    ensures count { (js : List ℕ) → Traced (view tables.old.log.now) last.event last.called js → result ≡ length js }
-    ensures written { (js : List ℕ) → Traced (view tables.old.log.now) last.event last.called js → tables.new.steps.now ≡ js ++ drop (length js) tables.old.steps.now }
-    ensures same { SameTables tables.old tables.new }
+// Writes the journey that tracing back from a stage spells into the front of a step table, and tells its number of steps.
+pub(crate) fn trace_back<L: Copy>(
+    log: &[Option<Entry<L>>],
+    steps: &mut [usize],
+    last: Stage,
+) -> usize
+    requires backward { IsBackward log.now }
+    requires traced { (js : List ℕ) × TracesBack (view log.now) last.event last.called js }
+    requires numbered { last.event < most_events }
+    requires room { last.event < length steps.old }
+    ensures count { (js : List ℕ)
+        → TracesBack (view log.now) last.event last.called js
+        → result ≡ length js }
+    ensures written { (js : List ℕ)
+        → TracesBack (view log.now) last.event last.called js
+        → steps.new ≡ js ++ drop (length js) steps.old }
 {
-    let count = count_steps(tables, last);
-    write_steps(tables, last, count);
+    let count = count_steps(log, last);
+    write_steps(log, &mut steps[..count], last);
     count
 }

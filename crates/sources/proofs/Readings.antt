@@ -6,8 +6,10 @@ use Rattle.std.proofs.lemmas.Option.{slice_get-get_or, slice_get_past, slice_get
 use Rattle.std.proofs.lemmas.Bool.{cases_lt}
 use Rattle.std.specs.List.{range_with_len, slice_get}
 use Rattle.records.specs.declared.event.Event.{Event}
+use Rattle.records.specs.Limits.{most_events}
 use Rattle.sources.specs.declared.reading.Counts.{Counts}
-use Rattle.sources.specs.Sources.{Call, reads, rewinds, Calls, Reading, ReadThrough, Repeats, is_opening, is_ride}
+use Rattle.records.specs.Events.{is_opening, is_ride}
+use Rattle.sources.specs.Sources.{Call, reads, rewinds, Calls, Reading, ReadThrough, Repeats}
 
 -- the events of the list es before the place p are counted
 pub record Midway (es : List Event) (r : Counts) (es' : List Event) (p : ℕ) : Type 0 where
@@ -54,7 +56,7 @@ module _ (es : List Event) (r : Counts) (ns : List Event) (p : ℕ) (ns' : List 
         end = omega (arith, h.step, past, w, ap length m.same);
       }
 
-  pub midway_few : (e : Event) → Some e ≡ slice_get ns p → length ns ≤ 1024 → (r.openings < 1024) × (r.rides < 1024)
+  pub midway_few : (e : Event) → Some e ≡ slice_get ns p → length ns ≤ most_events → (r.openings < most_events) × (r.rides < most_events)
   midway_few e item few =
       let l : p < length es = omega (arith, before_end ns p e item, ap length m.same) in
       let n = length-take p es in (

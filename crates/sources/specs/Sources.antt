@@ -6,17 +6,16 @@
 --     Repeats es p              from the list es and place p on: whatever was called before, the reads that follow a
 --                               rewind answer the list from its start, none behind its end
 --     Counts                    how many openings and how many rides
---     is_opening e, is_ride e   the kind of an event
 --     ReadThrough es r es' p'   a reading from start to end of the list es counts r and leaves the list es' and the place p'
 -- Of the fields
 --     same, start, end          say that the list is as before, the place 0, the place the list's end
 --     item                      the answer is the event at the place, none at the end
 --     step                      the place is one further, but never past the end
 --     openings, rides           so many of the list's events are openings, and rides
-use Rattle.std.specs.Prelude.{◌≡◌, ℕ, ◌+◌, min, Bool, true, false, not, List, [], ◌∷◌, ◌++◌, map, length, count_by, Option}
+use Rattle.std.specs.Prelude.{◌≡◌, ℕ, ◌+◌, min, List, [], ◌∷◌, ◌++◌, map, length, count_by, Option}
 use Rattle.std.specs.List.{range_with_len, slice_get}
 use Rattle.records.specs.declared.event.Event.{Event}
-use Rattle.records.specs.declared.event.Event.TheVariants.{Opening, Ride}
+use Rattle.records.specs.Events.{is_opening, is_ride}
 use Rattle.sources.specs.declared.reading.Counts.{Counts}
 
 pub record Reading (es : List Event) (p : ℕ) (r : Option Event) (es' : List Event) (p' : ℕ) : Type 0 where
@@ -40,13 +39,6 @@ Calls es p (rewinds ∷ cs) es' p' = (ns : List Event) × (q : ℕ) × Rewinding
 abbrev pub Repeats : List Event → ℕ → Type 0
 Repeats es p = (before : List Call) (answers : List (Option Event)) (es' : List Event) (p' : ℕ)
     → Calls es p (before ++ rewinds ∷ map reads answers) es' p' → answers ≡ map (slice_get es) (range_with_len 0 (length answers))
-
-abbrev pub is_ride : Event → Bool
-is_ride (Opening stop minute) = false
-is_ride (Ride from to departure duration) = true
-
-abbrev pub is_opening : Event → Bool
-is_opening e = not (is_ride e)
 
 pub record ReadThrough (es : List Event) (r : Counts) (es' : List Event) (p' : ℕ) : Type 0 where
   pub openings : r.openings ≡ count_by is_opening es

@@ -1,4 +1,4 @@
-// What the library's traits mean at counts.
+//! What the library's traits mean at counts.
 ghost use Rattle.std.specs.Prelude.{◌≡◌, IsTrue, ◌↔◌};
 ghost use Rattle.sources.specs.declared.reading.Counts.{Counts};
 

@@ -1,4 +1,4 @@
-// Sources of events: what every source answers, a source over a block of events, and a reading through any source.
+//! Sources of events: what every source answers, a source over a block of events, and a reading through any source.
 #![tactic(auto)]
 
 mod facts;

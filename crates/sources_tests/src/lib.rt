@@ -1,4 +1,4 @@
-// Tests of sources: blocks of events and of lines, opened, damaged, read through and read again.
+//! Tests of sources: blocks of events and of lines, opened, damaged, read through and read again.
 #![tactic(auto)]
 
 use faults::{Fault, Report};
@@ -23,7 +23,7 @@ fn count_of(openings: usize, rides: usize) -> Counts {
 }
 
 // How many rides the bytes have as lines, or what opening them meets; beside the like for blocks, by calls of other names.
-fn opened(bytes: &[u8]) -> Result<usize, Report> {
+fn rides_in(bytes: &[u8]) -> Result<usize, Report> {
     Ok(LineSource::open(bytes)?.size())
 }
 
@@ -45,7 +45,7 @@ fn rows(first: [u8; 16], second: [u8; 16], third: [u8; 16]) -> [u8; 48] {
 
 // What opening two lines meets.
 fn opened_two(first: [u8; 16], second: [u8; 16]) -> Result<usize, Report> {
-    opened(&rows(first, second, second)[0..32])
+    rides_in(&rows(first, second, second)[0..32])
 }
 
 // Three lines that interleave: two of them depart at minute 130, and the last in the block departs first.
@@ -57,8 +57,8 @@ fn three_lines() -> [u8; 48] {
     )
 }
 
-// A ride 1-2 100+20, an opening at 2, minute 125, and a ride 2-3 125+30. The tests of blocks have the same bytes: data of a test that
-// is read by itself.
+// A ride 1-2 100+20, an opening at 2, minute 125, and a ride 2-3 125+30. The tests of blocks have the same bytes: data of a
+// test that is read by itself.
 fn three_records() -> [u8; 48] {
     rows(
         [2, 1, 2, 0, 0, 0, 0, 100, 0, 20, 0, 0, 0, 0, 0, 0],
@@ -68,7 +68,7 @@ fn three_records() -> [u8; 48] {
 }
 
 // A refusal that hands its source back.
-fn refused<S: Source>(source: S) -> Result<(), (S, Fault)> {
+fn refuse<S: Source>(source: S) -> Result<(), (S, Fault)> {
     Err((source, Fault::NoJourney))
 }
 
@@ -140,10 +140,7 @@ mod tests {
         source.rewind();
         let events = [
             Event::ride(1, 2, 100, 20),
-            Event::Opening {
-                stop: 2,
-                minute: 125,
-            },
+            Event::opening(2, 125),
             Event::ride(2, 3, 125, 30),
         ];
         for event in events {
@@ -172,10 +169,10 @@ mod tests {
     #[test]
     fn handed_back_in_a_refusal(rt: HostRuntime) -> Result<(), Fail> {
         let lines = LineSource::open(&three_lines())?;
-        let (mut source, _) = refused(lines).err().ok_or("nothing is refused")?;
+        let (mut source, _) = refuse(lines).err().ok_or("nothing is refused")?;
         assert_eq!(rt; source.next(), Some(Event::ride(3, 4, 90, 5)));
         let records = RecordSource::open(&three_records())?;
-        let (mut source, _) = refused(records).err().ok_or("nothing is refused")?;
+        let (mut source, _) = refuse(records).err().ok_or("nothing is refused")?;
         assert_eq!(rt; source.next(), Some(Event::ride(1, 2, 100, 20)));
         Ok(())
     }
@@ -213,7 +210,7 @@ mod tests {
             assert!(rt; at < 48 && also_at < 48);
             bytes[at] = byte;
             bytes[also_at] = also_byte;
-            assert_eq!(rt; opened(&bytes), meets);
+            assert_eq!(rt; rides_in(&bytes), meets);
         }
     }
 
@@ -256,9 +253,9 @@ mod tests {
     fn full_blocks(rt: HostRuntime) -> Result<(), Fail> {
         let mut bytes = [0; ROOM];
         fill(&mut bytes, &line(7, 8, 60, 10, 3, 32));
-        assert_eq!(rt; opened(&bytes), Err(Report::new(2, 1, 32)));
-        assert_eq!(rt; opened(&bytes[0..513]), Err(Report::new(1, 1, 32)));
-        assert_eq!(rt; opened(&bytes[0..0]), Ok(0));
+        assert_eq!(rt; rides_in(&bytes), Err(Report::new(2, 1, 32)));
+        assert_eq!(rt; rides_in(&bytes[0..513]), Err(Report::new(1, 1, 32)));
+        assert_eq!(rt; rides_in(&bytes[0..0]), Ok(0));
         let mut source = LineSource::open(&bytes[0..512])?;
         assert_eq!(rt; read_through(&mut source), count_of(0, 1_024));
         assert_eq!(rt; source.next(), None);

@@ -1,37 +1,37 @@
-// Text that is put together in a line of a fixed length, and copied out.
+//! Text that is put together in a line of a fixed length, and copied out.
 #![tactic(auto)]
 
-ghost use Rattle.std.specs.Prelude.{◌≡◌, ◌∷◌, OnErr};
-ghost use Rattle.texts.specs.Pushing.{CopiedOut, Pushed};
+ghost use Rattle.std.specs.Prelude.{◌≡◌, ◌<◌, ◌∷◌, length, OnErr, IfNone};
+ghost use Rattle.texts.specs.Pushing.{CopiesOut, Pushes};
 
 use arrayvec::{ArrayString, CapacityError};
 use itoa::{Buffer, Integer};
 
-// Puts a text behind that of a line, or nothing where there is no room.
+/// Puts a text behind that of a line, or nothing where there is no room.
 pub fn push<const N: usize>(line: &mut ArrayString<N>, text: &str) -> Result<(), CapacityError>
-    ensures pushed { Pushed N line.old.bytes text.now result line.new.bytes }
+    ensures pushed { Pushes N line.old.bytes text.now result line.new.bytes }
     ensures unchanged { OnErr result (line.new.bytes ≡ line.old.bytes) }
 {
     line.try_push_str(text).map_err(CapacityError::simplify)
 }
 
-// Puts a number in decimal behind the text of a line, or nothing where there is no room.
+/// Puts a number in decimal behind the text of a line, or nothing where there is no room.
 pub fn push_number<const N: usize, I: Integer>(
     line: &mut ArrayString<N>,
     number: I,
 ) -> Result<(), CapacityError>
-    ensures pushed { Pushed N line.old.bytes (I.text number) result line.new.bytes }
+    ensures pushed { Pushes N line.old.bytes (I.text number) result line.new.bytes }
     ensures unchanged { OnErr result (line.new.bytes ≡ line.old.bytes) }
 {
     push(line, Buffer::new().format(number))
 }
 
-// Puts a space and a number behind the text of a line, or nothing where there is no room for both.
+/// Puts a space and a number behind the text of a line, or nothing where there is no room for both.
 pub fn push_spaced<const N: usize, I: Integer>(
     line: &mut ArrayString<N>,
     number: I,
 ) -> Result<(), CapacityError>
-    ensures pushed { Pushed N line.old.bytes (32 ∷ I.text number) result line.new.bytes }
+    ensures pushed { Pushes N line.old.bytes (32 ∷ I.text number) result line.new.bytes }
     ensures unchanged { OnErr result (line.new.bytes ≡ line.old.bytes) }
 {
     let mut buffer = Buffer::new();
@@ -43,15 +43,15 @@ pub fn push_spaced<const N: usize, I: Integer>(
     push(line, digits)
 }
 
-// Copies the text of a line to the front of the caller's bytes, and tells its length; none, with nothing copied, where it is
-// longer.
+/// Copies the text of a line to the front of the caller's bytes, and tells its length; none, with
+/// nothing copied, where it is longer.
 pub fn copy_out<const N: usize>(line: &ArrayString<N>, out: &mut [u8]) -> Option<usize>
-    ensures { CopiedOut line.now.bytes out.old result out.new }
+    ensures copied { CopiesOut N line.now.bytes out.old result out.new }
+    ensures longer { IfNone result (length out.old < length line.now.bytes) }
 {
-    let text = line.as_str().as_bytes();
-    if text.len() > out.len() {
+    if line.len() > out.len() {
         return None;
     }
-    out[..text.len()].copy_from_slice(text);
-    Some(text.len())
+    out[..line.len()].copy_from_slice(line.as_str().as_bytes());
+    Some(line.len())
 }

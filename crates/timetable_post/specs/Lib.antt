@@ -1,3 +1,4 @@
 pub mod Calls
-pub mod Days
+pub mod Histories
+pub mod Posts
 pub mod Queries

@@ -1,10 +1,10 @@
-// The post: one source, notices about its events, and queries over those in force.
+//! The post: one source, notices about its events, and queries over those in force.
 #![tactic(auto)]
 
 mod ask;
 mod calls;
-mod day;
+mod facts;
 mod marks;
 
 pub use calls::Post;
-pub use day::depots_day;
+pub use facts::histories_are_answered_rightly;

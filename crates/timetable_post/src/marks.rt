@@ -1,11 +1,12 @@
-// The marks of a post: true for an event that is out of force.
+//! The marks of a post: true for an event that is out of force.
 ghost use Rattle.std.specs.Prelude.{◌≡◌, false, replicate, count_by};
+ghost use Rattle.records.specs.Limits.{most_events};
 
 use records::MOST_EVENTS;
 
 // The marks with every event in force.
-pub(crate) fn all_in_force() -> [bool; MOST_EVENTS]
-    ensures { result ≡ replicate 1024 false }
+pub(crate) fn new_marks() -> [bool; MOST_EVENTS]
+    ensures { result ≡ replicate most_events false }
 {
     [false; MOST_EVENTS]
 }

@@ -1,62 +1,59 @@
 -- The journeys that fit are exactly the walks that end rightly; and one walk in another's place.
-use Rattle.std.proofs.Common.{◌≡◌, ℕ, ◌+◌, ◌<◌, ◌≤◌, Bool, true, false, cond, ◌||◌, List, [], ◌∷◌, ◌++◌, length, sym, refl, ap, ◌∙◌, subst, ⊎_elim, arith}
+use Rattle.std.proofs.Common.{◌≡◌, ℕ, ◌+◌, ◌<◌, ◌≤◌, Bool, true, false, ◌||◌, List, [], ◌∷◌, ◌++◌, length, sym, refl, ap, ◌∙◌, subst, ⊎_elim, arith}
 use Rattle.std.proofs.ByRecursion.{All-push}
 use Rattle.std.proofs.lemmas.List.{append_assoc, append-nil, length-append}
 use Rattle.std.proofs.lemmas.Bool.{both_ways, cases_lt, or_right}
 use Rattle.std.specs.List.{AllByRecursion}
 use Rattle.records.specs.declared.event.Event.{Event}
 use Rattle.records.specs.declared.event.Event.TheVariants.{Opening, Ride}
-use Rattle.records.specs.Events.{Listed, Within, time_of}
+use Rattle.records.specs.Events.{is_opening, IsTimetable, time_of, IsWithinLimits}
 use Rattle.measures.specs.Measures.{Laws, Ops}
 use Rattle.journeys.specs.declared.query.Query.{Query}
 use Rattle.journeys.specs.Formulas.{along, label_of, through}
-use Rattle.journeys.specs.Journeys.{Chained, Fits, Link, beginning, end_of, final, final_from, first, leaves, minutes, numbered, one_if_opening, one_if_ride, openings, reaches, ready, rides}
+use Rattle.journeys.specs.Journeys.{AllNeighbours, beginning, end_of, event_numbered, first_number, Fits, IsKnown, last_number, last_number_from, leaves_at, Link, minutes, one_if, one_if_opening, one_if_ride, openings, reaches_at, ready_at, rides, starts_at}
 use Rattle.journeys.proofs.Spans.{known_within, within_long, within_ride}
 use Rattle.journeys.proofs.Chains.{lower_rank, rank}
 use Rattle.journeys.proofs.Temporal.{kinds_sum}
-use Rattle.walks.specs.Walks.{Boards, Exchange, FitsBy, Known, Rightly, Starts, Traveller, Walk, WalksFit, begins, goes_on, is_opening, moved, outset}
+use Rattle.walks.specs.Walks.{CanTake, Exchange, FitsBy, ArrivesRightly, Starts, Traveller, Walk, WalksFit, begins, goes_on, traveller_after, outset}
 use Rattle.walks.proofs.Snocs.{along_snoc, chained_snoc, final_snoc, first_snoc, total_snoc}
 
-abbrev pub count : Bool → ℕ
-count b = cond b 1 0
-
 -- an opening counts once, where the call was not made yet
-count-moved : (b : Bool) (e : Event) → (is_opening e ≡ true → b ≡ false) → count b + one_if_opening e ≡ count (b || is_opening e)
-count-moved true (Opening s t) h = absurd (both_ways _ (h refl) refl)
-count-moved false (Opening s t) h = refl
-count-moved true (Ride a b t d) h = refl
-count-moved false (Ride a b t d) h = refl
+one_if-after : (b : Bool) (e : Event) → (is_opening e ≡ true → b ≡ false) → one_if b + one_if_opening e ≡ one_if (b || is_opening e)
+one_if-after true (Opening o) h = absurd (both_ways _ (h refl) refl)
+one_if-after false (Opening o) h = refl
+one_if-after true (Ride r) h = refl
+one_if-after false (Ride r) h = refl
 
-count_same : (b c : Bool) → count b ≡ count c → b ≡ c
-count_same true true h = refl
-count_same true false h = absurd (omega arith)
-count_same false true h = absurd (omega arith)
-count_same false false h = refl
+one_if_same : (b c : Bool) → one_if b ≡ one_if c → b ≡ c
+one_if_same true true h = refl
+one_if_same true false h = absurd (omega arith)
+one_if_same false true h = absurd (omega arith)
+one_if_same false false h = refl
 
 -- what comes later in a walk has the higher number
 next_rank : (d e : Event) → one_if_ride d ≤ minutes d → end_of d ≤ time_of e → (is_opening d ≡ true → is_opening e ≡ false) → rank d < rank e
-next_rank (Opening s t) (Opening r u) w h k = absurd (both_ways _ (k refl) refl)
-next_rank (Opening s t) (Ride a b u d) w h k = omega arith
-next_rank (Ride a b t d) e w h k = omega arith
+next_rank (Opening o) (Opening n) w h k = absurd (both_ways _ (k refl) refl)
+next_rank (Opening o) (Ride r) w h k = omega arith
+next_rank (Ride r) e w h k = omega arith
 
 -- what a walk is, by its list
 pub record Facts {L : Type 0} (m : Ops L) (es : List Event) (p : ℕ → Bool) (q : Query) (t : Traveller L) (js : List ℕ) : Type 0 where
   pub some : 0 < length js
-  pub known : AllByRecursion (Known es p) js
-  pub last_known : Known es p (final js)
-  pub rising : Chained ◌<◌ js
-  pub linked : Chained (Link es) js
-  pub calls : openings es js ≡ count t.called
-  pub departs : leaves (numbered es (first js)) ≡ q.from
+  pub known : AllByRecursion (IsKnown es p) js
+  pub last_known : IsKnown es p (last_number js)
+  pub rising : AllNeighbours ◌<◌ js
+  pub linked : AllNeighbours (Link es) js
+  pub calls : openings es js ≡ one_if t.called
+  pub departs : leaves_at (event_numbered es (first_number js)) ≡ q.from
   pub opens : q.open ≤ beginning es js
-  pub stops : t.stop ≡ reaches (numbered es (final js))
-  pub ends : t.end ≡ end_of (numbered es (final js))
-  pub readies : t.ready ≡ ready (numbered es (final js))
+  pub stops : t.stop ≡ reaches_at (event_numbered es (last_number js))
+  pub ends : t.end ≡ end_of (event_numbered es (last_number js))
+  pub readies : t.ready ≡ ready_at (event_numbered es (last_number js))
   pub label_is : t.label ≡ label_of m es js
-  pub last_call : is_opening (numbered es (final js)) ≡ true → t.called ≡ true
+  pub last_call : is_opening (event_numbered es (last_number js)) ≡ true → t.called ≡ true
 
-module _ {L : Type 0} (m : Ops L) (es : List Event) (p : ℕ → Bool) (q : Query) (listed : Listed es) where
-  begin_facts : (i : ℕ) → Starts es p q i → Facts m es p q (moved m (numbered es i) (outset m (numbered es i))) (i ∷ [])
+module _ {L : Type 0} (m : Ops L) (es : List Event) (p : ℕ → Bool) (q : Query) (listed : IsTimetable es) where
+  begin_facts : (i : ℕ) → Starts es p q i → Facts m es p q (traveller_after m (event_numbered es i) (outset m (event_numbered es i))) (i ∷ [])
   begin_facts i s =
       record {
         some = omega arith;
@@ -64,7 +61,7 @@ module _ {L : Type 0} (m : Ops L) (es : List Event) (p : ℕ → Bool) (q : Quer
         last_known = s.0;
         rising = (tt, tt);
         linked = (tt, tt);
-        calls = omega (arith, count-moved false (numbered es i) (λ _. refl));
+        calls = omega (arith, one_if-after false (event_numbered es i) (λ _. refl));
         departs = s.1;
         opens = s.2;
         stops = refl;
@@ -75,42 +72,42 @@ module _ {L : Type 0} (m : Ops L) (es : List Event) (p : ℕ → Bool) (q : Quer
       }
 
   -- an event that a walk can go on with has a higher number than its last
-  pub goes_up : (t : Traveller L) (js : List ℕ) (i : ℕ) → Facts m es p q t js → Boards (numbered es i) t → final js < i
+  pub goes_up : (t : Traveller L) (js : List ℕ) (i : ℕ) → Facts m es p q t js → CanTake (event_numbered es i) t → last_number js < i
   goes_up t js i f b =
-      let d = numbered es (final js) in
-      lower_rank es listed (final js) i f.last_known.0
-      (next_rank d (numbered es i) (within_ride d (known_within es p listed (final js) f.last_known))
-      (subst (λ x. x ≤ time_of (numbered es i)) f.readies b.1)
-      (λ o. not_opening (numbered es i) (λ e. both_ways _ (b.2 e) (f.last_call o))))
+      let d = event_numbered es (last_number js) in
+      lower_rank es listed (last_number js) i f.last_known.0
+      (next_rank d (event_numbered es i) (within_ride d (known_within es p listed (last_number js) f.last_known))
+      (subst (λ x. x ≤ starts_at (event_numbered es i)) f.readies b.1)
+      (λ o. not_opening (event_numbered es i) (λ e. both_ways _ (b.2 e) (f.last_call o))))
     where
       not_opening : (e : Event) → (is_opening e ≡ true → ⊥) → is_opening e ≡ false
-      not_opening (Opening s u) n = absurd (n refl)
-      not_opening (Ride a c u d) n = refl
+      not_opening (Opening o) n = absurd (n refl)
+      not_opening (Ride r) n = refl
 
-  on_facts : (t : Traveller L) (js : List ℕ) (i : ℕ) → Facts m es p q t js → Known es p i → Boards (numbered es i) t → Facts m es p q (moved m (numbered es i) t) (js ++ i ∷ [])
+  on_facts : (t : Traveller L) (js : List ℕ) (i : ℕ) → Facts m es p q t js → IsKnown es p i → CanTake (event_numbered es i) t → Facts m es p q (traveller_after m (event_numbered es i) t) (js ++ i ∷ [])
   on_facts t js i f k b =
       let e = final_snoc js i in
       let h = first_snoc js i f.some in
-      let at = sym (ap (numbered es) e) in
+      let at = sym (ap (event_numbered es) e) in
       record {
         some = omega (arith, length-append js (i ∷ []));
-        known = All-push (Known es p) js i f.known k;
-        last_known = subst (Known es p) (sym e) k;
+        known = All-push (IsKnown es p) js i f.known k;
+        last_known = subst (IsKnown es p) (sym e) k;
         rising = chained_snoc ◌<◌ js i f.rising (λ _. goes_up t js i f b);
         linked =
             chained_snoc (Link es) js i f.linked
-            (λ _. (sym f.stops ∙ sym b.0, subst (λ x. x ≤ time_of (numbered es i)) f.readies b.1));
-        calls = total_snoc (λ j. one_if_opening (numbered es j)) js i ∙ ap (λ x. x + one_if_opening (numbered es i)) f.calls ∙ count-moved t.called (numbered es i) b.2;
-        departs = ap (λ j. leaves (numbered es j)) h ∙ f.departs;
-        opens = subst (λ j. q.open ≤ time_of (numbered es j)) (sym h) f.opens;
-        stops = ap reaches at;
+            (λ _. (sym f.stops ∙ sym b.0, subst (λ x. x ≤ starts_at (event_numbered es i)) f.readies b.1));
+        calls = total_snoc (λ j. one_if_opening (event_numbered es j)) js i ∙ ap (λ x. x + one_if_opening (event_numbered es i)) f.calls ∙ one_if-after t.called (event_numbered es i) b.2;
+        departs = ap (λ j. leaves_at (event_numbered es j)) h ∙ f.departs;
+        opens = subst (λ j. q.open ≤ starts_at (event_numbered es j)) (sym h) f.opens;
+        stops = ap reaches_at at;
         ends = ap end_of at;
-        readies = ap ready at;
+        readies = ap ready_at at;
         label_is =
-            ap (through m (numbered es i)) f.label_is
+            ap (through m (event_numbered es i)) f.label_is
             ∙ sym (along_snoc m es (m.begin (beginning es js)) js i)
-            ∙ ap (λ j. along m es (m.begin (time_of (numbered es j))) (js ++ i ∷ [])) (sym h);
-        last_call = λ o. or_right t.called (is_opening (numbered es i)) (subst (λ j. is_opening (numbered es j) ≡ true) e o);
+            ∙ ap (λ j. along m es (m.begin (starts_at (event_numbered es j))) (js ++ i ∷ [])) (sym h);
+        last_call = λ o. or_right t.called (is_opening (event_numbered es i)) (subst (λ j. is_opening (event_numbered es j) ≡ true) e o);
       }
 
   pub walk_facts : {t : Traveller L} {js : List ℕ} → Walk m es p q t js → Facts m es p q t js
@@ -118,23 +115,23 @@ module _ {L : Type 0} (m : Ops L) (es : List Event) (p : ℕ → Bool) (q : Quer
   walk_facts (goes_on {t} {js} w i k b) = on_facts t js i (walk_facts w) k b
 
 -- rides and openings are all there is
-opening_stays : (e : Event) → one_if_ride e ≡ 0 → leaves e ≡ reaches e
-opening_stays (Opening s t) h = refl
-opening_stays (Ride a b t d) h = absurd (omega arith)
+opening_stays : (e : Event) → one_if_ride e ≡ 0 → leaves_at e ≡ reaches_at e
+opening_stays (Opening o) h = refl
+opening_stays (Ride r) h = absurd (omega arith)
 
 -- between two stops a walk with one opening at most has a ride
-some_ride : (es : List Event) (js : List ℕ) → 0 < length js → openings es js ≤ 1 → (leaves (numbered es (first js)) ≡ reaches (numbered es (final js)) → ⊥) → 1 ≤ rides es js
+some_ride : (es : List Event) (js : List ℕ) → 0 < length js → openings es js ≤ 1 → (leaves_at (event_numbered es (first_number js)) ≡ reaches_at (event_numbered es (last_number js)) → ⊥) → 1 ≤ rides es js
 some_ride es [] h o n = absurd (omega arith)
 some_ride es (j ∷ []) h o n =
-    ⊎_elim (λ z. absurd (n (opening_stays (numbered es j) (omega arith)))) (λ l. omega arith) (cases_lt (rides es (j ∷ [])) 1)
+    ⊎_elim (λ z. absurd (n (opening_stays (event_numbered es j) (omega arith)))) (λ l. omega arith) (cases_lt (rides es (j ∷ [])) 1)
 some_ride es (j ∷ k ∷ ks) h o n = omega (arith, kinds_sum es (j ∷ k ∷ ks))
 
-count_le : (b : Bool) → count b ≤ 1
-count_le true = omega arith
-count_le false = omega arith
+one_if_le : (b : Bool) → one_if b ≤ 1
+one_if_le true = omega arith
+one_if_le false = omega arith
 
-module _ {L : Type 0} (m : Ops L) (es : List Event) (p : ℕ → Bool) (q : Query) (listed : Listed es) where
-  fits_from_walk : (q.from ≡ q.to → ⊥) → (t : Traveller L) (js : List ℕ) → Walk m es p q t js → Rightly q t → FitsBy m es p q t js
+module _ {L : Type 0} (m : Ops L) (es : List Event) (p : ℕ → Bool) (q : Query) (listed : IsTimetable es) where
+  fits_from_walk : (q.from ≡ q.to → ⊥) → (t : Traveller L) (js : List ℕ) → Walk m es p q t js → ArrivesRightly q t → FitsBy m es p q t js
   fits_from_walk apart t js w r =
       let f = walk_facts m es p q listed w in (
         record {
@@ -144,9 +141,9 @@ module _ {L : Type 0} (m : Ops L) (es : List Event) (p : ℕ → Bool) (q : Quer
                 rising = f.rising;
                 linked = f.linked;
                 ridden =
-                    some_ride es js f.some (subst (λ x. x ≤ 1) (sym f.calls) (count_le t.called))
+                    some_ride es js f.some (subst (λ x. x ≤ 1) (sym f.calls) (one_if_le t.called))
                     (λ e. apart (sym f.departs ∙ e ∙ sym f.stops ∙ r.1));
-                called = f.calls ∙ ap count r.0;
+                called = f.calls ∙ ap one_if r.0;
                 departs = f.departs;
                 arrives = sym f.stops ∙ r.1;
               };
@@ -161,19 +158,19 @@ module _ {L : Type 0} (m : Ops L) (es : List Event) (p : ℕ → Bool) (q : Quer
   record Onward (js : List ℕ) (j : ℕ) (ks : List ℕ) (b : Bool) : Type 0 where
     traveller : Traveller L
     walk : Walk m es p q traveller (js ++ ks)
-    stops : traveller.stop ≡ reaches (numbered es (final_from j ks))
-    ends : traveller.end ≡ end_of (numbered es (final_from j ks))
-    calls : count traveller.called ≡ count b + openings es ks
+    stops : traveller.stop ≡ reaches_at (event_numbered es (last_number_from j ks))
+    ends : traveller.end ≡ end_of (event_numbered es (last_number_from j ks))
+    calls : one_if traveller.called ≡ one_if b + openings es ks
 
-  onward : (ks : List ℕ) (t : Traveller L) (js : List ℕ) (j : ℕ) → Walk m es p q t js → t.stop ≡ reaches (numbered es j) → t.ready ≡ ready (numbered es j) → t.end ≡ end_of (numbered es j) → Chained (Link es) (j ∷ ks) → AllByRecursion (Known es p) ks → count t.called + openings es ks ≤ 1 → Onward js j ks t.called
+  onward : (ks : List ℕ) (t : Traveller L) (js : List ℕ) (j : ℕ) → Walk m es p q t js → t.stop ≡ reaches_at (event_numbered es j) → t.ready ≡ ready_at (event_numbered es j) → t.end ≡ end_of (event_numbered es j) → AllNeighbours (Link es) (j ∷ ks) → AllByRecursion (IsKnown es p) ks → one_if t.called + openings es ks ≤ 1 → Onward js j ks t.called
   onward [] t js j w s r e c a o =
       record { traveller = t; walk = subst (Walk m es p q t) (sym (append-nil js)) w; stops = s; ends = e; calls = omega arith }
   onward (k ∷ ks) t js j w s r e c a o =
-      let d = numbered es k in
+      let d = event_numbered es k in
       let once : is_opening d ≡ true → t.called ≡ false = λ h. uncalled t.called d h (omega arith) in
-      let b : Boards d t = (sym c.0.0 ∙ sym s, subst (λ x. x ≤ time_of d) (sym r) c.0.1, once) in
-      let n = count-moved t.called d once in
-      let x = onward ks (moved m d t) (js ++ k ∷ []) k (goes_on w k a.0 b) refl refl refl c.1 a.1 (omega (arith, n)) in
+      let b : CanTake d t = (sym c.0.0 ∙ sym s, subst (λ x. x ≤ starts_at d) (sym r) c.0.1, once) in
+      let n = one_if-after t.called d once in
+      let x = onward ks (traveller_after m d t) (js ++ k ∷ []) k (goes_on w k a.0 b) refl refl refl c.1 a.1 (omega (arith, n)) in
       record {
         traveller = x.traveller;
         walk = subst (Walk m es p q x.traveller) (append_assoc js (k ∷ []) ks) x.walk;
@@ -182,24 +179,24 @@ module _ {L : Type 0} (m : Ops L) (es : List Event) (p : ℕ → Bool) (q : Quer
         calls = omega (arith, x.calls, n);
       }
     where
-      uncalled : (b : Bool) (e : Event) → is_opening e ≡ true → count b + one_if_opening e ≤ 1 → b ≡ false
+      uncalled : (b : Bool) (e : Event) → is_opening e ≡ true → one_if b + one_if_opening e ≤ 1 → b ≡ false
       uncalled false e h l = refl
-      uncalled true (Opening u v) h l = absurd (omega arith)
-      uncalled true (Ride u v x y) h l = absurd (both_ways _ refl h)
+      uncalled true (Opening o) h l = absurd (omega arith)
+      uncalled true (Ride r) h l = absurd (both_ways _ refl h)
 
-  walk_from_fits : (js : List ℕ) → Fits es p q js → (t : Traveller L) × Walk m es p q t js × Rightly q t
+  walk_from_fits : (js : List ℕ) → Fits es p q js → (t : Traveller L) × Walk m es p q t js × ArrivesRightly q t
   walk_from_fits [] f = absurd (omega (arith, f.journey.ridden))
   walk_from_fits (j ∷ js) f =
       let g = f.journey in
-      let d = numbered es j in
+      let d = event_numbered es j in
       let w = begins j (g.known.0, g.departs, f.opens) in
-      let n = count-moved false d (λ _. refl) in
-      let total : openings es (j ∷ js) ≡ count q.call = g.called in
-      let x = onward js (moved m d (outset m d)) (j ∷ []) j w refl refl refl g.linked g.known.1 (omega (arith, n, total, count_le q.call)) in (
+      let n = one_if-after false d (λ _. refl) in
+      let total : openings es (j ∷ js) ≡ one_if q.call = g.called in
+      let x = onward js (traveller_after m d (outset m d)) (j ∷ []) j w refl refl refl g.linked g.known.1 (omega (arith, n, total, one_if_le q.call)) in (
         x.traveller,
         x.walk,
         (
-          count_same x.traveller.called q.call (omega (arith, x.calls, n, total)),
+          one_if_same x.traveller.called q.call (omega (arith, x.calls, n, total)),
           x.stops ∙ g.arrives,
           subst (λ y. y ≤ q.close) (sym x.ends) f.closes,
         ),
@@ -209,13 +206,13 @@ pub walks_fit : {L : Type 0} (m : Ops L) → WalksFit m
 walks_fit m es p q js listed apart = (walk_from_fits m es p q listed js, (λ t w r. fits_from_walk m es p q listed apart t js w r))
 
 -- the same event keeps one label no worse than another
-pub through_kept : {L : Type 0} (m : Ops L) → Laws m → (e : Event) → Within e → (a b : L) → m.no_worse a b ≡ true → m.no_worse (through m e a) (through m e b) ≡ true
-through_kept m laws (Opening s t) w a b h = h
-through_kept m laws (Ride f g t d) w a b h = laws.rides a b d (within_ride (Ride f g t d) w) (within_long (Ride f g t d) w) h
+pub through_kept : {L : Type 0} (m : Ops L) → Laws m → (e : Event) → IsWithinLimits e → (a b : L) → m.no_worse a b ≡ true → m.no_worse (through m e a) (through m e b) ≡ true
+through_kept m laws (Opening o) w a b h = h
+through_kept m laws (Ride r) w a b h = laws.rides a b r.duration (within_ride (Ride r) w) (within_long (Ride r) w) h
 
 pub exchange : {L : Type 0} (m : Ops L) → Laws m → Exchange m
 exchange m laws es p q t u js ks i listed w v c k b d h = (
   goes_on w i k b,
-  ap (λ x. x || is_opening (numbered es i)) c,
-  through_kept m laws (numbered es i) (known_within es p listed i k) t.label u.label h,
+  ap (λ x. x || is_opening (event_numbered es i)) c,
+  through_kept m laws (event_numbered es i) (known_within es p listed i k) t.label u.label h,
 )

@@ -1,8 +1,9 @@
-// Takes the worked day through records, a load and a source, beside two lines, shows what a damaged copy meets, and judges its best journeys.
+//! Takes the worked day through records, a load and a source, beside two lines, shows what a damaged copy meets, and judges its
+//! best journeys.
 #![tactic(auto)]
 
 ghost use Rattle.std.specs.Prelude.{map, IfOk};
-ghost use Rattle.blocks.specs.Loads.{Filled};
+ghost use Rattle.blocks.specs.Loads.{IsFilledWith};
 ghost use Rattle.records.specs.Layout.{layout};
 
 use blocks::{Block, Load, RECORD_BYTES};
@@ -20,11 +21,11 @@ use worked_scores::{WORKED_LINES, WORKED_QUERY, WORKED_QUERY_WITH_CALL, worked_e
 // Room for one record more than the day has.
 const MEMORY_BYTES: usize = 128;
 
-// Fills memory with the records of the events, in their order, and tells how many there are. Here it shows its contract. The program
-// `searching` and the tests of the post have these few lines too: one text for all would be public, and would have to say what a
-// refusal leaves in the middle.
+// Fills memory with the records of the events, in their order, and tells how many there are. Here it shows its contract. The
+// program `trial_search` and the tests of the post have these few lines too: one text for all would be public, and would have to
+// say what a refusal leaves in the middle.
 fn store(memory: &mut [u8], events: &[Event]) -> Result<usize, Fault>
-    ensures { IfOk result (λ n. Filled memory.old (map layout events.now) memory.new n) }
+    ensures { IfOk result (λ n. IsFilledWith memory.old (map layout events.now) memory.new n) }
 {
     let mut load = Load::new(memory);
     for event in events {

@@ -11,9 +11,9 @@ use Rattle.records.specs.declared.event.Event.{Event}
 use Rattle.records.specs.Events.{time_of}
 use Rattle.measures.specs.Measures.{Ops, Score, ◌≼◌}
 use Rattle.journeys.specs.declared.query.Query.{Query}
-use Rattle.journeys.specs.Best.{Best, Least, NothingFits, Only}
+use Rattle.journeys.specs.Best.{IsBest, IsLowerBound, NothingFits, IsOnlyJourney}
 use Rattle.journeys.specs.Formulas.{score_of}
-use Rattle.journeys.specs.Journeys.{Before, Chained, Fits, Link, beginning, ending, final, first, leaves, numbered, openings, reaches, ready, rides}
+use Rattle.journeys.specs.Journeys.{Before, AllNeighbours, Fits, Link, beginning, ending, last_number, first_number, leaves_at, event_numbered, openings, reaches_at, ready_at, rides}
 
 -- a test of every element, and what it says
 abbrev every : {X : Type 0} → (X → Bool) → List X → Bool
@@ -43,13 +43,13 @@ all_from P Q h [] a = tt
 all_from P Q h (j ∷ js) a = (h j a.0, all_from P Q h js a.1)
 
 -- numbers of a rising list lie above its first
-rising_above : (a : ℕ) (js : List ℕ) → Before ◌<◌ a js → Chained ◌<◌ js → AllByRecursion (λ j. a + 1 ≤ j) js
+rising_above : (a : ℕ) (js : List ℕ) → Before ◌<◌ a js → AllNeighbours ◌<◌ js → AllByRecursion (λ j. a + 1 ≤ j) js
 rising_above a [] b c = tt
 rising_above a (j ∷ js) b c =
     (omega arith, all_from (λ k. j + 1 ≤ k) (λ k. a + 1 ≤ k) (λ k l. omega arith) js (rising_above j js c.0 c.1))
 
 -- complete: what is tested of all of them is tested of every rising list of these numbers
-pub risings_complete : (t : List ℕ → Bool) (a n : ℕ) → every t (risings a n) ≡ true → (js : List ℕ) → Chained ◌<◌ js → AllByRecursion (λ j. a ≤ j) js → AllByRecursion (λ j. j < a + n) js → t js ≡ true
+pub risings_complete : (t : List ℕ → Bool) (a n : ℕ) → every t (risings a n) ≡ true → (js : List ℕ) → AllNeighbours ◌<◌ js → AllByRecursion (λ j. a ≤ j) js → AllByRecursion (λ j. j < a + n) js → t js ≡ true
 risings_complete t a zero h [] c l u = (and_parts (t []) true h).0
 risings_complete t a zero h (j ∷ js) c l u = absurd (omega (arith, l.0, u.0))
 risings_complete t a (suc n) h [] c l u = risings_complete t (a + 1) n (every_append t (risings (a + 1) n) _ h).0 [] tt tt tt
@@ -89,7 +89,7 @@ decides_every : (t : ℕ → Bool) (P : ℕ → Type 0) → ((j : ℕ) → Decid
 decides_every t P d [] = decides_true
 decides_every t P d (j ∷ js) = Decides-and (t j) (every t js) (d j) (decides_every t P d js)
 
-decides_chained : (r : ℕ → ℕ → Bool) (R : ℕ → ℕ → Type 0) → ((i j : ℕ) → Decides (r i j) (R i j)) → (js : List ℕ) → Decides (chained_b r js) (Chained R js)
+decides_chained : (r : ℕ → ℕ → Bool) (R : ℕ → ℕ → Type 0) → ((i j : ℕ) → Decides (r i j) (R i j)) → (js : List ℕ) → Decides (chained_b r js) (AllNeighbours R js)
 decides_chained r R d [] = decides_true
 decides_chained r R d (j ∷ []) = Decides-and true true decides_true decides_true
 decides_chained r R d (j ∷ k ∷ ks) = Decides-and (r j k) (chained_b r (k ∷ ks)) (d j k) (decides_chained r R d (k ∷ ks))
@@ -126,7 +126,7 @@ decides_bool b = ((λ h. h), (λ h. h))
 
 module _ (es : List Event) (p : ℕ → Bool) (q : Query) where
   abbrev link_b : ℕ → ℕ → Bool
-  link_b j k = eqb (reaches (numbered es j)) (leaves (numbered es k)) && leb (ready (numbered es j)) (time_of (numbered es k))
+  link_b j k = eqb (reaches_at (event_numbered es j)) (leaves_at (event_numbered es k)) && leb (ready_at (event_numbered es j)) (time_of (event_numbered es k))
 
   abbrev known_b : ℕ → Bool
   known_b j = ltb j (length es) && p j
@@ -141,8 +141,8 @@ module _ (es : List Event) (p : ℕ → Bool) (q : Query) where
       && (chained_b link_b js
       && (leb 1 (rides es js)
       && (eqb (openings es js) wanted
-      && (eqb (leaves (numbered es (first js))) q.from
-      && (eqb (reaches (numbered es (final js))) q.to && (leb q.open (beginning es js) && leb (ending es js) q.close)))))))
+      && (eqb (leaves_at (event_numbered es (first_number js))) q.from
+      && (eqb (reaches_at (event_numbered es (last_number js))) q.to && (leb q.open (beginning es js) && leb (ending es js) q.close)))))))
 
   decides_known : (j : ℕ) → Decides (known_b j) ((j < length es) × (p j ≡ true))
   decides_known j = Decides-and (ltb j (length es)) (p j) (Decides-ltb j (length es)) (decides_bool (p j))
@@ -150,7 +150,7 @@ module _ (es : List Event) (p : ℕ → Bool) (q : Query) where
   decides_link : (j k : ℕ) → Decides (link_b j k) (Link es j k)
   decides_link j k = Decides-and _ _ (Decides-eqb _ _) (decides_leb _ _)
 
-  fits_parts : (js : List ℕ) → Fits es p q js → AllByRecursion (λ j. (j < length es) × (p j ≡ true)) js × (Chained ◌<◌ js × (Chained (Link es) js × ((1 ≤ rides es js) × ((openings es js ≡ wanted) × ((leaves (numbered es (first js)) ≡ q.from) × ((reaches (numbered es (final js)) ≡ q.to) × ((q.open ≤ beginning es js) × (ending es js ≤ q.close))))))))
+  fits_parts : (js : List ℕ) → Fits es p q js → AllByRecursion (λ j. (j < length es) × (p j ≡ true)) js × (AllNeighbours ◌<◌ js × (AllNeighbours (Link es) js × ((1 ≤ rides es js) × ((openings es js ≡ wanted) × ((leaves_at (event_numbered es (first_number js)) ≡ q.from) × ((reaches_at (event_numbered es (last_number js)) ≡ q.to) × ((q.open ≤ beginning es js) × (ending es js ≤ q.close))))))))
   fits_parts js f = let j = f.journey in (j.known, (j.rising, (j.linked, (j.ridden, (j.called, (j.departs, (j.arrives, (f.opens, f.closes))))))))
 
   -- sound and complete: the test is true exactly of what fits
@@ -162,8 +162,8 @@ module _ (es : List Event) (p : ℕ → Bool) (q : Query) where
       (Decides-and _ _ (decides_chained link_b (Link es) decides_link js)
       (Decides-and _ _ (decides_leb 1 (rides es js))
       (Decides-and _ _ (Decides-eqb (openings es js) wanted)
-      (Decides-and _ _ (Decides-eqb (leaves (numbered es (first js))) q.from)
-      (Decides-and _ _ (Decides-eqb (reaches (numbered es (final js))) q.to)
+      (Decides-and _ _ (Decides-eqb (leaves_at (event_numbered es (first_number js))) q.from)
+      (Decides-and _ _ (Decides-eqb (reaches_at (event_numbered es (last_number js))) q.to)
       (Decides-and _ _ (decides_leb q.open (beginning es js)) (decides_leb (ending es js) q.close)))))))) in (
         (λ t.
             let f = d.0 t in
@@ -201,12 +201,12 @@ module _ (es : List Event) (p : ℕ → Bool) (q : Query) where
   pub none_listed : every_fit (λ js. false) ≡ true → NothingFits es p q
   none_listed h js f = both_ways _ refl (fits_listed (λ ks. false) h js f)
 
-  pub only_listed : (js : List ℕ) → fits_b js ≡ true → every_fit (λ ks. bytes_eq ks js) ≡ true → Only es p q js
+  pub only_listed : (js : List ℕ) → fits_b js ≡ true → every_fit (λ ks. bytes_eq ks js) ≡ true → IsOnlyJourney es p q js
   only_listed js t h = ((decides_fits js).0 t, λ ks f. (bytes_eq-Decides ks js).0 (fits_listed (λ is. bytes_eq is js) h ks f))
 
   module _ {L : Type 0} (m : Ops L) (s : Score) where
-    least_listed : every_fit (λ js. not_above s (score_of m es js)) ≡ true → Least m es p q s
+    least_listed : every_fit (λ js. not_above s (score_of m es js)) ≡ true → IsLowerBound m es p q s
     least_listed h js f = not_above_lem s (score_of m es js) (fits_listed (λ ks. not_above s (score_of m es ks)) h js f)
 
-    pub best_listed : (js : List ℕ) → fits_b js ≡ true → score_of m es js ≡ s → every_fit (λ ks. not_above s (score_of m es ks)) ≡ true → Best m es p q s
+    pub best_listed : (js : List ℕ) → fits_b js ≡ true → score_of m es js ≡ s → every_fit (λ ks. not_above s (score_of m es ks)) ≡ true → IsBest m es p q s
     best_listed js t e h = ((js, (decides_fits js).0 t, e), least_listed h)

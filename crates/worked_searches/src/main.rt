@@ -1,14 +1,14 @@
-// Finds the best journeys of the worked day by searches, in tables that are exactly long enough for it.
+//! Finds the best journeys of the worked day by searches, in tables that are exactly long enough for it.
 #![tactic(auto)]
 
 use heap_tables::{HeapTables, Lengths, Slots};
-use journeys::Query;
+use journeys::{Answer, Query};
 use measures::{
     EarliestArrival, Fastest, FewestRides, LatestDeparture, LeastRiding, LeastWaiting, Measure,
     Trip,
 };
 use records::write;
-use search::{Answer, CheckedQuery};
+use search::CheckedQuery;
 use sources::{RecordSource, Source};
 use std::io;
 use worked_scores::{WORKED_QUERY, WORKED_QUERY_WITH_CALL, worked_events};
@@ -23,7 +23,7 @@ fn print_answer(rt: &impl Print, answer: Option<Answer>, steps: &[usize]) -> io:
         steps: count,
         reads,
     } = answer;
-    let named = answer.named(steps);
+    let named = answer.named_steps(steps);
     println!(rt; "{named:?} {verdict}, steps {count}, reads {reads}")
 }
 
@@ -49,7 +49,7 @@ fn print_found<M: Measure>(
 }
 
 // Searches under each measure, without a call.
-fn print_six(
+fn print_each(
     rt: &impl Print,
     source: &mut RecordSource,
     plain: &mut HeapTables<u32>,
@@ -90,7 +90,7 @@ fn print_searches(rt: &HostRuntime, bytes: &[u8]) -> io::Result<()> {
     let lengths = Lengths::for_events(source.size());
     let mut plain = HeapTables::new(rt.alloc(), lengths, Slots::default())?;
     let mut trips = HeapTables::new(rt.alloc(), lengths, Slots::default())?;
-    print_six(rt, &mut source, &mut plain, &mut trips)?;
+    print_each(rt, &mut source, &mut plain, &mut trips)?;
     let with_call = WORKED_QUERY_WITH_CALL;
     print_found::<FewestRides>(rt, "n with a call", &mut source, with_call, &mut plain)?;
     print_found::<LeastRiding>(rt, "s with a call", &mut source, with_call, &mut plain)?;

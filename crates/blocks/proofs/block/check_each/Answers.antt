@@ -1,5 +1,5 @@
 use Rattle.std.proofs.Common.{Some, sym, ap, ◌∙◌, arith}
-use Rattle.faults.specs.Rules.{first_broken}
+use Rattle.faults.specs.Rules.{first_fault}
 use Rattle.faults.proofs.Rules.{broken_from_err, kept_from_ok, value_from_ok}
 use Rattle.records.specs.Layout.{event_in}
 use Rattle.blocks.specs.Blocks.{rules_after}
@@ -8,7 +8,7 @@ use Rattle.blocks.proofs.Scans.{exit_broken, turn_broken, turn_kept}
 use Rattle.blocks.proofs.block.check_each.Goals as goal
 
 pub loop-place-init : goal.loop-place-init
-loop-place-init c = ap first_broken (behind_by_place c.args.rows.now)
+loop-place-init c = ap first_fault (behind_by_place c.args.rows.now)
 
 pub returns-in_err-read_after : goal.returns-in_err-read_after
 returns-in_err-read_after c =

@@ -1,5 +1,5 @@
 use Rattle.std.proofs.Common.{refl, ◌∙◌, arith}
-use Rattle.dialogue.specs.Obeying.{desk}
+use Rattle.dialogue.specs.Obeying.{session}
 use Rattle.byte_calls.proofs.Underway.{rest_shorter, underway_begun, underway_ends, underway_on}
 use Rattle.byte_calls.proofs.conversation.converse.Goals as goal
 
@@ -8,7 +8,7 @@ loop-line-init g c =
     let post = c.args.post.now in
     record {
       underway =
-          underway_begun g.S.Source.events g.S.Source.place (desk post.source post.marks c.args.tables.now) c.args.lines.now c.args.text.now;
+          underway_begun (session c.args.post.now c.args.tables.now) c.args.lines.now c.args.text.now;
       within = omega arith;
       long = refl;
     }
@@ -23,7 +23,7 @@ pub loop-line-preserved : goal.loop-line-preserved
 loop-line-preserved g c =
     record {
       underway =
-          underway_on g.S.Source.events g.S.Source.place _ _ _ _ _ _ _ _ _ _ _ c.in-Some.ensures c.answer_behind-so_far.ensures.answering
+          underway_on _ _ _ _ _ _ _ _ _ _ _ c.in-Some.ensures c.answer_behind-so_far.ensures.answering
           c.loop-line.invariant.underway;
       within = c.answer_behind-so_far.ensures.within;
       long = c.answer_behind-so_far.ensures.long ∙ c.loop-line.invariant.long;
@@ -31,7 +31,7 @@ loop-line-preserved g c =
 
 pub returns-clause-converses : goal.returns-clause-converses
 returns-clause-converses g c =
-    underway_ends g.S.Source.events g.S.Source.place _ _ _ _ _ _ c.in_default.ensures c.loop-line.invariant.underway
+    underway_ends _ _ _ _ _ _ c.in_default.ensures c.loop-line.invariant.underway
 
 pub returns-clause-within : goal.returns-clause-within
 returns-clause-within g c = c.loop-line.invariant.within

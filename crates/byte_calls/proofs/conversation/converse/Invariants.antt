@@ -1,5 +1,5 @@
 use Rattle.std.proofs.Common.{◌≡◌, ◌≤◌, length, IfSome}
-use Rattle.dialogue.specs.Obeying.{desk}
+use Rattle.dialogue.specs.Obeying.{session}
 use Rattle.byte_calls.proofs.Underway.{Underway}
 use Rattle.byte_calls.proofs.conversation.converse.Given as goal
 
@@ -7,8 +7,8 @@ abbrev pub invariant-loop-line : goal.invariant-loop-line
 invariant-loop-line g l =
     record {
       underway :
-          Underway g.S.Source.events g.S.Source.place (desk l.initial.post.source l.initial.post.marks l.initial.tables) l.lines
-          (desk l.post.source l.post.marks l.tables) l.left l.so_far l.text;
+          Underway (session l.initial.post l.initial.tables) l.lines
+          (session l.post l.tables) l.left l.so_far l.text;
       within : IfSome l.so_far (λ n. n ≤ length l.text);
       long : length l.text ≡ length l.initial.text;
     }

@@ -1,7 +1,7 @@
 use Rattle.std.proofs.Common.{◌≡◌, min, length, ◌++◌, sym, refl, ap, ◌∙◌, subst, rules}
 use Rattle.std.proofs.lemmas.Result.{err_from_is_err_and}
 use Rattle.faults.proofs.Rules.{broken_from_err}
-use Rattle.blocks.specs.Loads.{Filling, accepted, begun}
+use Rattle.blocks.specs.Loads.{Filling, accepted_records, begun}
 use Rattle.byte_calls.proofs.Filled.{Underway, fills_at, kept_after, underway_begun, underway_ends, underway_on, underway_stops}
 use Rattle.byte_calls.proofs.loading.fill.Goals as goal
 
@@ -28,7 +28,7 @@ loop-record-preserved c =
       size = step.0 ∙ c.loop-record.invariant.size;
       underway =
           underway_on _ _ _ c.in-Some.record.now _ _ _ _ _ step.1.0 u
-          (subst (λ a. Filling c.new-load.result.memory.now (u.held ++ accepted a c.in-Some.record.now) c.add.new.self.memory.now c.add.new.self.held) c.in_ok-add.was f);
+          (subst (λ a. Filling c.new-load.result.memory.now (u.held ++ accepted_records a c.in-Some.record.now) c.add.new.self.memory.now c.add.new.self.held) c.in_ok-add.was f);
     }
 
 pub returns-in_err-add : goal.returns-in_err-add

@@ -7,4 +7,6 @@ returns-in_err-ok c =
     rw (c.from_residual.ensures) (refl, λ v. grind (arith, short_texts c.args.command v))
 
 pub returns : goal.returns
-returns c = wrote c.args.command _ _ _ _ c.if-not-is_valid.ensures (grind arith) c.copy_out.ensures
+returns c =
+    let valid = c.if-not-is_valid.ensures in
+    wrote c.args.command 25 _ _ _ _ (grind (arith, short_texts c.args.command valid)) valid (grind arith) c.copy_out.ensures.copied

@@ -1,10 +1,10 @@
 use Rattle.std.proofs.Common.{◌≡◌, List, length, Some, Ok, Err, Result, MatchResult, OnErr, Vec, sym, ◌∙◌, subst}
 use Rattle.std.proofs.lemmas.List.{with_items_is}
 use Rattle.std.specs.Vec.{with_items}
-use Rattle.faults.specs.Rules.{Kept, first_broken}
-use Rattle.journeys.specs.Verdicts.{in_force}
-use Rattle.search.specs.Queries.{lengths_in, table_rules}
-use Rattle.search.specs.Searches.{Found}
+use Rattle.faults.specs.Rules.{IsKept, first_fault}
+use Rattle.journeys.specs.Marks.{is_in_force}
+use Rattle.search.specs.Lengths.{lengths_in, table_rules}
+use Rattle.search.specs.Searches.{FindsBest}
 use Rattle.heap_tables.proofs.HeapTables.search.Goals as goal
 
 -- what holds of lists holds of their equals
@@ -32,8 +32,8 @@ returns-clause-found g c =
     (λ log board queue steps steps'.
     let rules = table_rules (length es) (lengths_in log board queue steps) in
     MatchResult c.search_in.result
-    (λ o. Kept rules × Found g.M.Measure.ops es (in_force c.args.marks.now) c.args.query.query steps o steps')
-    (λ f. first_broken rules ≡ Some f))
+    (λ o. IsKept rules × FindsBest g.M.Measure.ops es (is_in_force c.args.marks.now) c.args.query steps o steps')
+    (λ f. first_fault rules ≡ Some f))
     c.deref_mut.ensures.value c.deref_mut-2.ensures.value c.deref_mut-3.ensures.value c.deref_mut-4.ensures.value
     (sym (with_items_is c.args.self.now.steps c.search_in.new.steps (c.search_in.auto.steps ∙ c.deref_mut-4.ensures.len)))
     c.search_in.ensures.found

@@ -1,6 +1,6 @@
 use Rattle.std.proofs.Common.{subst}
 use Rattle.sources.specs.Sources.{ReadThrough}
-use Rattle.sources.specs.Tables.{blank}
+use Rattle.sources.specs.Tables.{blank_event}
 use Rattle.sources.proofs.Readings.{midway_end, midway_few, midway_more, reading_falls, repeats}
 use Rattle.sources.proofs.reading.read_through.Goals as goal
 
@@ -9,7 +9,7 @@ returns g c =
     record {
       through =
           subst (λ es. ReadThrough es c.loop-event.counts (g.S.Source.events c.next.new.self) (g.S.Source.place c.next.new.self)) c.rewind.ensures.same
-          (midway_end _ _ _ _ _ _ c.loop-event.invariant blank (g.S.Source.within c.loop-event.source) c.in_default.ensures);
+          (midway_end _ _ _ _ _ _ c.loop-event.invariant blank_event (g.S.Source.within c.loop-event.source) c.in_default.ensures);
       repeats = repeats (g.S.Source.events c.args.source.now) (g.S.Source.place c.args.source.now);
     }
 

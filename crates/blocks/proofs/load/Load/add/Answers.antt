@@ -1,7 +1,6 @@
-use Rattle.std.proofs.Common.{◌+◌, ◌*◌, eqb, [], ◌∷◌, ◌++◌, length, sym, ◌∙◌, subst, arith}
-use Rattle.std.proofs.lemmas.Bool.{eqb-true}
-use Rattle.faults.proofs.Rules.{broken_from_err, kept_from_ok, kept_parts}
-use Rattle.blocks.proofs.Fills.{placed_part}
+use Rattle.std.proofs.Common.{◌+◌, ◌*◌, [], ◌∷◌, ◌++◌, sym, ◌∙◌, subst, arith}
+use Rattle.faults.proofs.Rules.{broken_from_err, kept_from_ok}
+use Rattle.blocks.proofs.Fills.{add_bounds, placed_part}
 use Rattle.blocks.proofs.Scans.{exit_broken}
 use Rattle.blocks.specs.Loads.{Filling, added}
 use Rattle.blocks.proofs.load.Load.add.Goals as goal
@@ -16,6 +15,6 @@ returns-clause-filling c =
     let r = c.args.bytes.now in
     let n = c.args.self.now.held in
     let k = kept_from_ok _ _ _ (sym c.check_next.ensures ∙ c.in_ok-check_next.was) in
-    let long = eqb-true (length r) 16 (kept_parts (eqb (length r) 16) _ _ k).0 in
+    let bounds = add_bounds c.args.self.now.memory.now n r k in
     subst (λ m. Filling o (rs ++ r ∷ []) m (n + 1))
-    (placed_part c.args.self.now.memory.now r _ (16 * n) _ _ c.copy_from_slice.ensures.after (omega arith) (omega (arith, long))) (added r f k)
+    (placed_part c.args.self.now.memory.now r _ (16 * n) _ _ c.copy_from_slice.ensures.after (omega arith) (omega (arith, bounds.long))) (added r f k)

@@ -1,8 +1,9 @@
 use Rattle.std.proofs.Common.{rules, ◌≡◌, ◌<◌, map, get_or, sym, ◌∙◌, subst, ⊎_elim, arith}
 use Rattle.std.proofs.lemmas.List.{ext_get_or, get_or_past, get_or-map, length-map}
 use Rattle.std.proofs.lemmas.Bool.{cases_lt}
+use Rattle.records.specs.Limits.{most_lines}
 use Rattle.lines.specs.Lines.{no_line}
-use Rattle.lines.specs.Merges.{beyond, cursor_of, no_cursor}
+use Rattle.lines.specs.Merges.{end_minute, cursor_of, no_cursor}
 use Rattle.lines.proofs.cursor.Cursors.of.Goals as goal
 
 pub invariant_of-result : goal.invariant_of-result
@@ -16,9 +17,9 @@ invariant_of-result c =
           (λ h.
           let t = m.at k no_line no_cursor h in
           let e : get_or c.map.result k no_cursor ≡ cursor_of (get_or ls.lines k no_line) = search rules in
-          subst (λ d. beyond d < 4294967296) (sym e) (ls.fits k))
-          (λ h. subst (λ d. beyond d < 4294967296) (sym (get_or_past c.map.result k no_cursor (omega (arith, m.long)))) (omega arith))
-          (cases_lt k 32);
+          subst (λ d. end_minute d < 4294967296) (sym e) (ls.fits k))
+          (λ h. subst (λ d. end_minute d < 4294967296) (sym (get_or_past c.map.result k no_cursor (omega (arith, m.long)))) (omega arith))
+          (cases_lt k most_lines);
     }
 
 pub returns : goal.returns

@@ -2,7 +2,7 @@ use Rattle.std.proofs.Common.{sum_by, sym, ap, ◌∙◌, subst, arith}
 use Rattle.std.proofs.lemmas.List.{length-take, take_all}
 use Rattle.std.proofs.lemmas.List.Sorted.{sum_by-IsPermutation}
 use Rattle.lines.specs.Departures.{departures, runs}
-use Rattle.lines.specs.Merges.{Queued, cursor_of, left_of, lefts}
+use Rattle.lines.specs.Merges.{QueuesNext, cursor_of, departures_left_of, departures_left}
 use Rattle.lines.proofs.Drawing.{Filled, filled_more}
 use Rattle.lines.proofs.Gathers.{gather-map}
 use Rattle.lines.proofs.Orders.{sorted_shuffled}
@@ -16,7 +16,7 @@ pub loop-line-preserved : goal.loop-line-preserved
 loop-line-preserved c =
     let cs = c.of-cursors.result in
     let s = c.loop-line in
-    let q = subst (λ o. Queued s.slots s.used o c.put_next.new.slots c.put_next.new.used) c.next.ensures c.put_next.ensures in
+    let q = subst (λ o. QueuesNext s.slots s.used o c.put_next.new.slots c.put_next.new.used) c.next.ensures c.put_next.ensures in
     filled_more cs.table s.line s.slots s.used c.put_next.new.slots c.put_next.new.used (omega (arith, cs.all)) s.invariant q
 
 pub invariant_of-result : goal.invariant_of-result
@@ -30,6 +30,6 @@ pub returns : goal.returns
 returns c =
     λ f.
     let ls = c.args.lines.now.lines in
-    ap (λ l. sum_by f (lefts l)) c.of-cursors.ensures
-    ∙ ap (sum_by f) (gather-map left_of cursor_of 0 ls)
+    ap (λ l. sum_by f (departures_left l)) c.of-cursors.ensures
+    ∙ ap (sum_by f) (gather-map departures_left_of cursor_of 0 ls)
     ∙ sym (sum_by-IsPermutation f (runs ls) (departures ls) (sorted_shuffled (runs ls)))

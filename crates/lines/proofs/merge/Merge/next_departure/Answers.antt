@@ -1,5 +1,5 @@
 use Rattle.std.proofs.Common.{sym, ◌∙◌, subst, arith}
-use Rattle.lines.specs.Merges.{Drawn, lefts}
+use Rattle.lines.specs.Merges.{DrawsNext, departures_left}
 use Rattle.lines.proofs.Drawing.{drawn_bag, known_line, least_left, none_left, queue_bag, ride_left}
 use Rattle.lines.proofs.merge.Merge.next_departure.Goals as goal
 
@@ -7,7 +7,7 @@ pub returns-in_err-departure : goal.returns-in_err-departure
 returns-in_err-departure c =
     let s = c.args.self.now in
     let none = none_left s.cursors.table s.slots s.used s.bag c.take.new.slots c.take.new.used c.in_err-departure.ensures in
-    subst (λ o. Drawn (lefts s.cursors.table) o (lefts s.cursors.table)) (sym c.from_residual.ensures) (none, none)
+    subst (λ o. DrawsNext (departures_left s.cursors.table) o (departures_left s.cursors.table)) (sym c.from_residual.ensures) (none, none)
 
 pub advance-following-requires : goal.advance-following-requires
 advance-following-requires c =

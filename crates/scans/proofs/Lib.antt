@@ -1,0 +1,3 @@
+pub mod Accounting
+pub mod Entries
+pub mod Scanning

@@ -1,3 +1,0 @@
-pub mod Accounting
-pub mod Entries
-pub mod Stepping

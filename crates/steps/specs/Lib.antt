@@ -1,8 +1,0 @@
-pub mod Accounts
-pub mod Arrivals
-pub mod Boards
-pub mod Entering
-pub mod Standing
-pub mod Tables
-pub mod Views
-pub mod Orders

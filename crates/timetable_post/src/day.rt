@@ -1,8 +1,0 @@
-// What is proved of every list of calls.
-ghost use Rattle.timetable_post.specs.Days.{DepotsDay};
-
-// After every list of notices, tallies and queries each call had the answer that those before it make right, and the marks are
-// those of the events about which the latest accepted notice was a withdrawal.
-pub fn depots_day()
-    ensures { DepotsDay }
-{}
